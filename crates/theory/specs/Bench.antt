@@ -1,0 +1,123 @@
+-- Document 01, "Bench examples": those marked P, as one table, and what it says of each row that it holds. The proof, by computation, is in proofs/Table.
+use mathlib.Core.Path.{_≡_}
+use mathlib.Core.List.{List, [], _∷_, map}
+use Prim.Native.Nat.{ℕ, zero, suc}
+use Prim.Native.String.{String}
+use lib.IntN.{ℤ, pos, negsuc}
+use lib.ListN.{length, getD}
+use Rattle.theory.specs.Basics.{cells}
+use Rattle.theory.specs.Text.{Bytes, bytes}
+use Rattle.theory.specs.ProgramText.{Command, variables}
+use Rattle.theory.specs.Runs.{Outcome, run, within}
+use Rattle.theory.specs.Source as S
+use Rattle.theory.specs.Word as W
+use Rattle.theory.specs.Word.{Symbol, Entry, symbol-of, bytes-of}
+use Rattle.theory.specs.Translation.{word-of, word-text}
+use Rattle.theory.specs.Machines.{fresh-source, fresh-word}
+use Rattle.theory.specs.TurnedDown.{Answer, done, refused, read-text, read-word, instructions}
+use Rattle.theory.specs.declared.End.{End}
+use Rattle.theory.specs.declared.End.the-variants.{Halted, Strayed, Spent, Full}
+
+-- What a run of a word shows: its end, its steps, its place and the first so many registers
+pub record Shown : Type 0 where
+  pub end : End
+  pub steps : ℕ
+  pub place : ℤ
+  pub registers : List Bytes
+
+-- What both runs of a program show: its word, the source's end, steps and the first so many variables, and the word's run
+pub record Both : Type 0 where
+  pub word : Bytes
+  pub end : End
+  pub steps : ℕ
+  pub values : List ℕ
+  pub run : Shown
+
+-- A row: a program with its capacity and starting values, or a word with its starting registers; and what is expected
+pub data Row : Type 0 where
+  program : String → ℕ → List ℕ → Both → Row
+  word : String → List String → Shown → Row
+
+-- The budget of these runs
+abbrev pub budget : ℕ
+budget = 1000
+
+unfoldable pub show : ℕ → Outcome W.State → Shown
+show n o = record { end = o .end; steps = o .steps; place = o .state .place; registers = cells n (λ i. bytes-of (o .state .registers (suc i))) }
+
+unfoldable pub show-both : ℕ → List ℕ → List Command → Both
+show-both capacity v p =
+    let s = run (S.machine (within capacity) p) budget 0 (fresh-source (λ i. getD v i 0)) in
+    record {
+      word = word-text p;
+      end = s .end;
+      steps = s .steps;
+      values = cells (length v) (s .state .values);
+      run = show (length v) (run (W.machine (within capacity) (word-of p)) budget 0 (fresh-word (variables p) (λ i. getD v i 0)));
+    }
+
+-- Register r, of the contents given, the first that of register 1
+abbrev pub from : List String → ℕ → List Symbol
+from rs zero = []
+from rs (suc i) = map symbol-of (bytes (getD rs i ""))
+
+unfoldable pub show-word : List String → List Entry → Shown
+show-word rs t = show (length rs) (run (W.machine (within 1024) (instructions t)) budget 0 (record { place = pos 1; registers = from rs }))
+
+-- The text is read and shows what the row expects
+abbrev pub ShowsBoth : Answer (List Command) → ℕ → List ℕ → Both → Type 0
+ShowsBoth (refused r) capacity v expected = ⊥
+ShowsBoth (done p) capacity v expected = show-both capacity v p ≡ expected
+
+abbrev pub Shows : Answer (List Entry) → List String → Shown → Type 0
+Shows (refused r) rs expected = ⊥
+Shows (done t) rs expected = show-word rs t ≡ expected
+
+abbrev pub Holds : Row → Type 0
+Holds (program text capacity v expected) = ShowsBoth (read-text (bytes text)) capacity v expected
+Holds (word text rs expected) = Shows (read-word (bytes text)) rs expected
+
+abbrev pub AllHold : List Row → Type 0
+AllHold [] = Unit {0}
+AllHold (r ∷ rs) = Holds r × AllHold rs
+
+abbrev pub adder : String
+adder = "loop X1\nX0 <- X0 + 1\nendloop X1\n"
+
+abbrev pub adder-word : String
+adder-word = "1###11#####1111###1111#111#1111####111#####111###11#111####1111#####111###1#111####"
+
+unfoldable pub table : List Row
+table =
+    program adder 1024 (0 ∷ 3 ∷ []) (record {
+      word = bytes adder-word; end = Halted; steps = 7; values = 3 ∷ 3 ∷ [];
+      run = record { end = Halted; steps = 37; place = pos 15; registers = bytes "111" ∷ bytes "111" ∷ [] } })
+    ∷ program adder 1024 (0 ∷ 0 ∷ []) (record {
+      word = bytes adder-word; end = Halted; steps = 1; values = 0 ∷ 0 ∷ [];
+      run = record { end = Halted; steps = 7; place = pos 15; registers = bytes "" ∷ bytes "" ∷ [] } })
+    ∷ program "" 1024 [] (record {
+      word = bytes "1###"; end = Halted; steps = 0; values = [];
+      run = record { end = Halted; steps = 1; place = pos 2; registers = [] } })
+    ∷ program "X0 <- X1\n" 1024 (1 ∷ 2 ∷ []) (record {
+      word = bytes "1###1#####11###11####11#####1111###1#111#1111####111#####111###11#111####"; end = Halted; steps = 1; values = 2 ∷ 2 ∷ [];
+      run = record { end = Halted; steps = 23; place = pos 14; registers = bytes "11" ∷ bytes "11" ∷ [] } })
+    ∷ program "X2 <- X2\n" 1024 (0 ∷ 0 ∷ 4 ∷ []) (record {
+      word = bytes "1###111#####11###111#"; end = Halted; steps = 1; values = 0 ∷ 0 ∷ 4 ∷ [];
+      run = record { end = Halted; steps = 3; place = pos 5; registers = bytes "" ∷ bytes "" ∷ bytes "1111" ∷ [] } })
+    ∷ program "while X1 != 0\nX1 <- 0\nendwhile X1 != 0\n" 1024 (0 ∷ 5 ∷ []) (record {
+      word = bytes "1###11#####111111###11#11#####11###11####111111####"; end = Halted; steps = 4; values = 0 ∷ 0 ∷ [];
+      run = record { end = Halted; steps = 18; place = pos 9; registers = bytes "" ∷ bytes "" ∷ [] } })
+    ∷ word "11###" [] (record { end = Strayed; steps = 1; place = pos 3; registers = [] })
+    ∷ word "1####" [] (record { end = Strayed; steps = 1; place = pos 0; registers = [] })
+    ∷ word "1#####" ("" ∷ []) (record { end = Halted; steps = 1; place = pos 2; registers = bytes "" ∷ [] })
+    ∷ word "1#####" ("1" ∷ []) (record { end = Strayed; steps = 1; place = pos 3; registers = bytes "" ∷ [] })
+    ∷ word "11#####111111###111###1##1111####1#111111####" ("#" ∷ "1#" ∷ []) (record {
+      end = Halted; steps = 9; place = pos 8; registers = bytes "#1#" ∷ bytes "" ∷ [] })
+    ∷ program "X0 <- X0 + 1\n" 2 (2 ∷ []) (record {
+      word = bytes "1###1#"; end = Full; steps = 0; values = 2 ∷ [];
+      run = record { end = Full; steps = 1; place = pos 2; registers = bytes "11" ∷ [] } })
+    ∷ []
+
+-- Every row holds
+abbrev pub TableHolds : Type 0
+TableHolds = AllHold table

@@ -1,0 +1,14 @@
+pub mod Limits
+pub mod Basics
+pub mod Text
+pub mod ProgramText
+pub mod Runs
+pub mod Source
+pub mod Word
+pub mod Translation
+pub mod Machines
+pub mod RunSheet
+pub mod TurnedDown
+pub mod RunTool
+pub mod Claims
+pub mod Bench

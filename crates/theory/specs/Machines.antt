@@ -1,0 +1,122 @@
+-- Document 01, "Machines of the set": fresh states, the layout of a machine's store, and the value of a halted word.
+use mathlib.Core.Bool.{Bool, true, false, cond, _&&_}
+use mathlib.Core.Option.{Option, none, some}
+use mathlib.Core.List.{List, [], _∷_, _++_, map}
+use Prim.Native.Nat.{ℕ, zero, suc, _+_, _-_, _*_}
+use lib.IntN.{ℤ, pos}
+use lib.ListN.{length, getD, take, drop, replicate}
+use lib.Dec.{eqb, ltb, leb}
+use Rattle.theory.specs.Basics.{cells, all, all-below}
+use Rattle.theory.specs.Text.{Bytes}
+use Rattle.theory.specs.Limits.{most-registers, most-capacity}
+use Rattle.theory.specs.Runs.{Outcome, run, within}
+use Rattle.theory.specs.ProgramText.{Command}
+use Rattle.theory.specs.Source as S
+use Rattle.theory.specs.Word as W
+use Rattle.theory.specs.Word.{Symbol, one, Instruction, bytes-of, symbol-of, is-symbol}
+use Rattle.theory.specs.declared.End.{End}
+use Rattle.theory.specs.declared.End.the-variants.{Halted}
+
+-- Fresh states: "line or place 1, no steps and passes-left all 0; a word's registers beyond its source's variables are then empty"
+abbrev pub fresh-source : (ℕ → ℕ) → S.State
+fresh-source v = record { line = 1; values = v; passes = λ d. 0 }
+
+-- as many 1s
+abbrev pub ones : ℕ → List Symbol
+ones n = replicate n one
+
+-- "register i+1 holding as many 1s as variable i has and no #", for the first K variables; every other register empty
+abbrev pub holding : ℕ → (ℕ → ℕ) → ℕ → List Symbol
+holding K v zero = []
+holding K v (suc i) = cond (ltb i K) (ones (v i)) []
+
+abbrev pub fresh-word : ℕ → (ℕ → ℕ) → W.State
+fresh-word K v = record { place = pos 1; registers = holding K v }
+
+-- The state of a source on a set: its capacity, its count of steps, and where it stands. The set keeps 32 values and 16 passes-left
+pub record SourceState : Type 0 where
+  pub capacity : ℕ
+  pub steps : ℕ
+  pub state : S.State
+
+-- A run of the source from such a state; its count of steps afterwards is the one before plus the steps taken
+unfoldable pub run-source : List Command → SourceState → ℕ → Outcome S.State
+run-source p s budget = run (S.machine (within (s .capacity)) p) budget (s .steps) (s .state)
+
+-- A machine's memory: the number of registers, their capacity, "the lent store", and "Lengths are a second lent list, one for each register"
+pub record Memory : Type 0 where
+  pub registers : ℕ
+  pub capacity : ℕ
+  pub store : Bytes
+  pub lengths : List ℕ
+
+-- "Register r has its place in the lent store from byte (r - 1) × capacity"
+abbrev pub offset : ℕ → ℕ → ℕ
+offset capacity r = (r - 1) * capacity
+
+-- "its symbols from the start of that place and byte 0 after them"
+abbrev pub laid : ℕ → List Symbol → Bytes
+laid capacity xs = bytes-of xs ++ replicate (capacity - length xs) 0
+
+-- "the store is exactly all places": those of the first n registers, and their lengths
+unfoldable pub store-of : ℕ → ℕ → (ℕ → List Symbol) → Bytes
+store-of capacity zero f = []
+store-of capacity (suc n) f = store-of capacity n f ++ laid capacity (f (suc n))
+
+abbrev pub lengths-of : ℕ → (ℕ → List Symbol) → List ℕ
+lengths-of n f = cells n (λ i. length (f (suc i)))
+
+-- The bytes of register r's place, and what it holds
+abbrev pub place-of : Memory → ℕ → Bytes
+place-of m r = take (m .capacity) (drop (offset (m .capacity) r) (m .store))
+
+abbrev pub contents : Memory → ℕ → List Symbol
+contents m zero = []
+contents m (suc i) = map symbol-of (take (getD (m .lengths) i 0) (place-of m (suc i)))
+
+-- A place is laid out so, with a length of n: n is within the capacity, n symbols, and byte 0 after them
+abbrev pub is-laid : ℕ → ℕ → Bytes → Bool
+is-laid capacity n b = leb n capacity && all is-symbol (take n b) && all (eqb 0) (drop n b)
+
+abbrev pub is-limited : ℕ → ℕ → Bool
+is-limited most n = leb 1 n && leb n most
+
+-- Rule 10's sizes and layout
+unfoldable pub is-memory : Memory → Bool
+is-memory m =
+    is-limited most-registers (m .registers)
+    && is-limited most-capacity (m .capacity)
+    && eqb (length (m .store)) (offset (m .capacity) (suc (m .registers)))
+    && eqb (length (m .lengths)) (m .registers)
+    && all-below (m .registers) (λ i. is-laid (m .capacity) (getD (m .lengths) i 0) (place-of m (suc i)))
+
+-- The memory with other contents
+abbrev pub refilled : Memory → (ℕ → List Symbol) → Memory
+refilled m f = record {
+  registers = m .registers;
+  capacity = m .capacity;
+  store = store-of (m .capacity) (m .registers) f;
+  lengths = lengths-of (m .registers) f;
+}
+
+-- The "small record of place and steps": place is a signed 32-bit number, any value; steps an unsigned 32-bit count
+pub record Position : Type 0 where
+  pub place : ℤ
+  pub steps : ℕ
+
+abbrev pub word-state : Memory → Position → W.State
+word-state m p = record { place = p .place; registers = contents m }
+
+unfoldable pub run-word : List Instruction → Memory → Position → ℕ → Outcome W.State
+run-word w m p budget = run (W.machine (within (m .capacity)) w) budget (p .steps) (word-state m p)
+
+-- "The value of a halted word is register 1". Of a word that is not halted the papers say nothing: it has none
+abbrev pub value-where : Option End → List Symbol → Option (List Symbol)
+value-where none xs = none
+value-where (some Halted) xs = some xs
+value-where (some End.Strayed) xs = none
+value-where (some End.Spent) xs = none
+value-where (some End.Full) xs = none
+
+unfoldable pub value : List Instruction → W.State → Option (List Symbol)
+value w s = value-where (W.ended-at (length w) (s .place)) (s .registers 1)

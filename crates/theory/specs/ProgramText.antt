@@ -1,0 +1,141 @@
+-- Document 01, "The program text": commands, their spellings, the list of three numbers a command, K, and blocks.
+use mathlib.Core.Bool.{Bool, true, false, cond}
+use mathlib.Core.Option.{Option, none, some, Option·map}
+use mathlib.Core.List.{List, [], _∷_, _++_}
+use Prim.Native.Nat.{ℕ, zero, suc, max}
+use lib.Dec.{eqb}
+use Rattle.theory.specs.Basics.{given, or-else, and-then}
+use Rattle.theory.specs.Text.{Bytes, bytes, LF, Found, after, same, name, name-of}
+
+-- Commands
+
+-- `clear i` is `Xi <- 0`, `increment i` is `Xi <- Xi + 1`, `copy i j` is `Xi <- Xj`
+pub data Plain : Type 0 where
+  clear : ℕ → Plain
+  increment : ℕ → Plain
+  copy : ℕ → ℕ → Plain
+
+pub data Kind : Type 0 where
+  loop while : Kind
+
+-- A line: a plain command, or the opening or closing line of a pair on a variable
+pub data Command : Type 0 where
+  plain : Plain → Command
+  opens : Kind → ℕ → Command
+  closes : Kind → ℕ → Command
+
+-- The indices that a command names. "Increment names one variable twice": it is one index
+abbrev pub indices : Command → List ℕ
+indices (plain (clear i)) = i ∷ []
+indices (plain (increment i)) = i ∷ []
+indices (plain (copy i j)) = i ∷ j ∷ []
+indices (opens k i) = i ∷ []
+indices (closes k i) = i ∷ []
+
+-- The highest plus 1, or 0
+abbrev pub above : List ℕ → ℕ
+above [] = 0
+above (i ∷ l) = max (suc i) (above l)
+
+-- "K is the highest index named plus 1, or 0": the number of variables
+abbrev pub variables : List Command → ℕ
+variables [] = 0
+variables (c ∷ p) = max (above (indices c)) (variables p)
+
+-- Writing: "the spellings, single blanks only"
+unfoldable pub spelling : Command → Bytes
+spelling (plain (clear i)) = name-of i ++ bytes " <- 0"
+spelling (plain (increment i)) = name-of i ++ (bytes " <- " ++ (name-of i ++ bytes " + 1"))
+spelling (plain (copy i j)) = name-of i ++ (bytes " <- " ++ name-of j)
+spelling (opens loop i) = bytes "loop " ++ name-of i
+spelling (closes loop i) = bytes "endloop " ++ name-of i
+spelling (opens while i) = bytes "while " ++ (name-of i ++ bytes " != 0")
+spelling (closes while i) = bytes "endwhile " ++ (name-of i ++ bytes " != 0")
+
+-- A program as text: "Each line is one command and ends in LF"
+unfoldable pub text-of : List Command → Bytes
+text-of [] = []
+text-of (c ∷ p) = spelling c ++ (LF ∷ text-of p)
+
+-- Reading: a line that is exactly a name between two given texts; one that is exactly two names around " <- ", and a given text
+unfoldable pub around : Bytes → Bytes → Bytes → Option ℕ
+around front back t = and-then (after front t) λ u. and-then (name u) λ f. given (same back (f .rest)) (f .value)
+
+unfoldable pub assigns : Bytes → Bytes → Option (ℕ × ℕ)
+assigns back t =
+    and-then (name t) λ f. and-then (after (bytes " <- ") (f .rest)) λ u. and-then (name u) λ g. given (same back (g .rest)) (f .value, g .value)
+
+-- The command that a line spells, its indices of any size; none where it is none of the spellings (rule 4)
+unfoldable pub command : Bytes → Option Command
+command t =
+    or-else (Option·map (λ i. plain (clear i)) (around (bytes "") (bytes " <- 0") t))
+    (or-else (and-then (assigns (bytes " + 1") t) λ ij. given (eqb (ij .0) (ij .1)) (plain (increment (ij .0))))
+    (or-else (Option·map (λ ij. plain (copy (ij .0) (ij .1))) (assigns (bytes "") t))
+    (or-else (Option·map (opens loop) (around (bytes "loop ") (bytes "") t))
+    (or-else (Option·map (closes loop) (around (bytes "endloop ") (bytes "") t))
+    (or-else (Option·map (opens while) (around (bytes "while ") (bytes " != 0") t))
+    (Option·map (closes while) (around (bytes "endwhile ") (bytes " != 0") t)))))))
+
+-- The list: "three numbers a command: kind 1 to 7 in the order of the spellings, index, and a copy's source index (else 0)"
+abbrev pub numbers : Command → List ℕ
+numbers (plain (clear i)) = 1 ∷ i ∷ 0 ∷ []
+numbers (plain (increment i)) = 2 ∷ i ∷ 0 ∷ []
+numbers (plain (copy i j)) = 3 ∷ i ∷ j ∷ []
+numbers (opens loop i) = 4 ∷ i ∷ 0 ∷ []
+numbers (closes loop i) = 5 ∷ i ∷ 0 ∷ []
+numbers (opens while i) = 6 ∷ i ∷ 0 ∷ []
+numbers (closes while i) = 7 ∷ i ∷ 0 ∷ []
+
+unfoldable pub list-of : List Command → List ℕ
+list-of [] = []
+list-of (c ∷ p) = numbers c ++ list-of p
+
+-- "a wrong kind, a nonzero third number where none belongs": none
+abbrev pub command-of-kind : ℕ → ℕ → Option Command
+command-of-kind k i =
+    cond (eqb k 1) (some (plain (clear i)))
+    (cond (eqb k 2) (some (plain (increment i)))
+    (cond (eqb k 4) (some (opens loop i))
+    (cond (eqb k 5) (some (closes loop i))
+    (cond (eqb k 6) (some (opens while i))
+    (cond (eqb k 7) (some (closes while i)) none)))))
+
+unfoldable pub command-of : ℕ → ℕ → ℕ → Option Command
+command-of k i j = cond (eqb k 3) (some (plain (copy i j))) (cond (eqb j 0) (command-of-kind k i) none)
+
+-- The commands of a list; "a last command cut short (still counted)" is none
+unfoldable pub listed : List ℕ → List (Option Command)
+listed [] = []
+listed (k ∷ []) = none ∷ []
+listed (k ∷ i ∷ []) = none ∷ []
+listed (k ∷ i ∷ j ∷ l) = command-of k i j ∷ listed l
+
+-- "A block is lines and pairs; a pair holds a block, which may be empty": nothing; a plain line and the rest; a pair with its body, and the rest
+pub data Block : Type 0 where
+  end : Block
+  line : Plain → Block → Block
+  pair : Kind → ℕ → Block → Block → Block
+
+abbrev pub lines : Block → List Command
+lines end = []
+lines (line c b) = plain c ∷ lines b
+lines (pair k i body b) = opens k i ∷ (lines body ++ (closes k i ∷ lines b))
+
+-- A program's blocks, read from its last line to its first: the block that begins here, and those that follow each pair open here
+pub record Blocks : Type 0 where
+  pub first : Block
+  pub later : List Block
+
+abbrev pub opened-by : Kind → ℕ → Block → List Block → Blocks
+opened-by k i b [] = record { first = pair k i b end; later = [] }
+opened-by k i b (b′ ∷ bs) = record { first = pair k i b b′; later = bs }
+
+unfoldable pub blocks : List Command → Blocks
+blocks [] = record { first = end; later = [] }
+blocks (plain c ∷ p) = let r = blocks p in record { first = line c (r .first); later = r .later }
+blocks (opens k i ∷ p) = let r = blocks p in opened-by k i (r .first) (r .later)
+blocks (closes k i ∷ p) = let r = blocks p in record { first = end; later = r .first ∷ r .later }
+
+-- The block of a program; of one that is well-nested `lines` gives the program again
+unfoldable pub block-of : List Command → Block
+block-of p = blocks p .first

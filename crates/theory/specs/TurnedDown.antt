@@ -1,0 +1,276 @@
+-- Document 01, "What is turned down": rules 1 to 19, and the order in which each call checks them.
+use mathlib.Core.Bool.{Bool, true, false, cond, not, _&&_, _||_}
+use mathlib.Core.Option.{Option, none, some}
+use mathlib.Core.List.{List, [], _∷_, _++_, map}
+use Prim.Native.Nat.{ℕ, zero, suc, _+_}
+use lib.ListN.{length, getD, take, drop}
+use lib.Dec.{eqb, ltb, leb}
+use Rattle.theory.specs.Limits
+use Rattle.theory.specs.Basics.{given, or-else, and-then, present, all, all-below}
+use Rattle.theory.specs.Text.{Bytes, split-lines, ends-in-LF}
+use Rattle.theory.specs.ProgramText.{Kind, loop, while, Command, plain, opens, closes, indices, above, variables, command, listed}
+use Rattle.theory.specs.Source as S
+use Rattle.theory.specs.Word.{Entry, Instruction, is-symbol, symbol-of, entries, instruction-of}
+use Rattle.theory.specs.Machines.{SourceState, Memory, is-memory, is-limited}
+use Rattle.theory.specs.RunSheet.{names, values, distinct}
+use Rattle.theory.specs.declared.Refusal.{Refusal}
+
+-- "Each answer is number and place"
+abbrev pub refuse : ℕ → ℕ → Option Refusal
+refuse number place = some (record { number = number; place = place })
+
+abbrev pub unless : Bool → ℕ → ℕ → Option Refusal
+unless true number place = none
+unless false number place = refuse number place
+
+-- What a call hands back: its result, or the first refusal that applies
+pub data Answer (A : Type 0) : Type 0 where
+  done : A → Answer A
+  refused : Refusal → Answer A
+
+abbrev pub answer : {A : Type 0} → Option Refusal → A → Answer A
+answer none a = done a
+answer (some r) a = refused r
+
+-- What a call does with what another handed back
+abbrev pub after : {A B : Type 0} → Answer A → (A → Answer B) → Answer B
+after (done a) f = f a
+after (refused r) f = refused r
+
+-- Programs: rules 1 to 8
+
+-- "The text is over 16,384 bytes (place 0)"
+unfoldable pub rule-1 : Bytes → Option Refusal
+rule-1 t = unless (leb (length t) Limits.most-bytes) 1 0
+
+-- "The text has bytes and its last isn't LF (place the last line)"
+unfoldable pub rule-2 : Bytes → Option Refusal
+rule-2 t = unless (eqb (length t) 0 || ends-in-LF t) 2 (length (split-lines t))
+
+-- "There are more than 512 lines (place 513)"
+unfoldable pub rule-3 : {A : Type 0} → List A → Option Refusal
+rule-3 l = unless (leb (length l) Limits.most-lines) 3 (suc Limits.most-lines)
+
+-- A pair that is open, with its line and index
+pub record Open : Type 0 where
+  pub line : ℕ
+  pub kind : Kind
+  pub index : ℕ
+
+abbrev pub same-kind : Kind → Kind → Bool
+same-kind loop loop = true
+same-kind loop while = false
+same-kind while loop = false
+same-kind while while = true
+
+-- "A pair opens with 16 open"; "A closing line doesn't match the innermost open pair in kind and index, or none is open"
+abbrev pub pair-fault : ℕ → List Open → Command → Option Refusal
+pair-fault n os (plain c) = none
+pair-fault n os (opens k i) = unless (ltb (length os) Limits.most-open) 6 n
+pair-fault n [] (closes k i) = refuse 7 n
+pair-fault n (o ∷ os) (closes k i) = unless (same-kind k (o .kind) && eqb i (o .index)) 7 n
+
+-- Line n, under the pairs open there: 4, none of the spellings; 5, an index above 31; then 6 and 7
+abbrev pub line-fault : ℕ → List Open → Option Command → Option Refusal
+line-fault n os none = refuse 4 n
+line-fault n os (some c) = or-else (unless (leb (above (indices c)) (suc Limits.most-index)) 5 n) (pair-fault n os c)
+
+-- The pairs open after a line
+abbrev pub open-next : ℕ → List Open → Option Command → List Open
+open-next n os none = os
+open-next n os (some (plain c)) = os
+open-next n os (some (opens k i)) = record { line = n; kind = k; index = i } ∷ os
+open-next n [] (some (closes k i)) = []
+open-next n (o ∷ os) (some (closes k i)) = os
+
+-- "rules 4 to 7 go line by line, first faulty line first"; then 8, "A pair is left open (place the innermost opening line)"
+unfoldable pub lines-fault : ℕ → List Open → List (Option Command) → Option Refusal
+lines-fault n [] [] = none
+lines-fault n (o ∷ os) [] = refuse 8 (o .line)
+lines-fault n os (c ∷ p) = or-else (line-fault n os c) (lines-fault (suc n) (open-next n os c) p)
+
+-- Rules 3 to 8, of the lines of a text or the commands of a list
+unfoldable pub program-fault : List (Option Command) → Option Refusal
+program-fault p = or-else (rule-3 p) (lines-fault 1 [] p)
+
+abbrev pub text-lines : Bytes → List (Option Command)
+text-lines t = map command (split-lines t)
+
+unfoldable pub text-fault : Bytes → Option Refusal
+text-fault t = or-else (rule-1 t) (or-else (rule-2 t) (program-fault (text-lines t)))
+
+-- A program handed in as text, rules 1 to 8; as a list of numbers, rules 3 to 8: "A call skips the numbers of things it isn't given"
+unfoldable pub read-text : Bytes → Answer (List Command)
+read-text t = answer (text-fault t) (present (text-lines t))
+
+unfoldable pub read-list : List ℕ → Answer (List Command)
+read-list l = answer (program-fault (listed l)) (present (listed l))
+
+-- Source states: rule 9
+
+-- A value is at most the capacity, and 0 "at index K or higher"
+abbrev pub is-value : ℕ → ℕ → ℕ → ℕ → Bool
+is-value capacity K i v = leb v capacity && (ltb i K || eqb v 0)
+
+-- Passes left of the loop inside d loops: 1 to capacity "for a loop whose body or `endloop` holds its line", of which there are D, 0 "for any other"
+abbrev pub is-passes : ℕ → ℕ → ℕ → ℕ → Bool
+is-passes capacity D d k = cond (ltb d D) (is-limited capacity k) (eqb k 0)
+
+unfoldable pub is-source : List Command → SourceState → Bool
+is-source p s =
+    is-limited Limits.most-capacity (s .capacity)
+    && is-limited (suc (length p)) (s .state .line)
+    && all-below Limits.state-values (λ i. is-value (s .capacity) (variables p) i (s .state .values i))
+    && all-below Limits.state-passes (λ d. is-passes (s .capacity) (S.depth p (s .state .line)) d (s .state .passes d))
+
+unfoldable pub rule-9 : List Command → SourceState → Option Refusal
+rule-9 p s = unless (is-source p s) 9 0
+
+-- "A machine's sizes are outside the limits or its store or lengths aren't as laid down above (place 0)"
+unfoldable pub rule-10 : Memory → Option Refusal
+rule-10 m = unless (is-memory m) 10 0
+
+-- Words: rules 11 to 15. Places are byte offsets from 0
+
+unfoldable pub rule-11 : Bytes → Option Refusal
+rule-11 w = unless (is-limited Limits.most-symbols (length w)) 11 0
+
+-- The place of the first byte from n on that fails a test
+unfoldable pub first-failing : (ℕ → Bool) → ℕ → List ℕ → Option ℕ
+first-failing f n [] = none
+first-failing f n (b ∷ l) = cond (f b) (first-failing f (suc n) l) (some n)
+
+unfoldable pub rule-12 : Bytes → Option Refusal
+rule-12 w = and-then (first-failing is-symbol 0 w) (refuse 12)
+
+abbrev pub entry-size : Entry → ℕ
+entry-size e = e .operand + e .kind
+
+-- "The word starts with #, has a sixth # running, or ends in 1 (place 0, that #, or the length; the least)": in the entry that starts at n
+abbrev pub entry-fault : ℕ → Entry → Option ℕ
+entry-fault n e =
+    or-else (given (eqb (e .operand) 0) n)
+    (or-else (given (ltb 5 (e .kind)) (n + e .operand + 5))
+    (given (eqb (e .kind) 0) (n + e .operand)))
+
+-- The first answer, of entries that follow one another from n
+unfoldable pub first-along : (ℕ → Entry → Option ℕ) → ℕ → List Entry → Option ℕ
+first-along f n [] = none
+first-along f n (e ∷ t) = or-else (f n e) (first-along f (n + entry-size e) t)
+
+unfoldable pub rule-13 : List Entry → Option Refusal
+rule-13 t = and-then (first-along entry-fault 0 t) (refuse 13)
+
+abbrev pub total : List Entry → ℕ
+total [] = 0
+total (e ∷ t) = entry-size e + total t
+
+-- "There are more than 8,192 instructions (place the next one's start)"
+unfoldable pub rule-14 : List Entry → Option Refusal
+rule-14 t = unless (leb (length t) Limits.most-instructions) 14 (total (take Limits.most-instructions t))
+
+-- "An add or cases names a register the machine lacks (place the start of the first such)"; kinds 1, 2 and 5 name a register
+abbrev pub names-register : ℕ → Bool
+names-register k = ltb k 3 || eqb k 5
+
+abbrev pub lacks : ℕ → ℕ → Entry → Option ℕ
+lacks registers n e = given (names-register (e .kind) && ltb registers (e .operand)) n
+
+unfoldable pub rule-15 : ℕ → List Entry → Option Refusal
+rule-15 registers t = and-then (first-along (lacks registers) 0 t) (refuse 15)
+
+abbrev pub word-entries : Bytes → List Entry
+word-entries w = entries (map symbol-of w)
+
+unfoldable pub word-fault : Bytes → Option Refusal
+word-fault w = or-else (rule-11 w) (or-else (rule-12 w) (or-else (rule-13 (word-entries w)) (rule-14 (word-entries w))))
+
+-- Tables: "places are entries from 0: 11 is no entries or kinds and operands summing above 600,000, 13 a kind outside 1 to 5 or an operand of 0"
+
+unfoldable pub table-rule-11 : List Entry → Option Refusal
+table-rule-11 t = unless (leb 1 (length t) && leb (total t) Limits.most-symbols) 11 0
+
+-- The index of the first entry from n on for which there is an answer
+unfoldable pub first-entry : (ℕ → Entry → Option ℕ) → ℕ → List Entry → Option ℕ
+first-entry f n [] = none
+first-entry f n (e ∷ t) = or-else (f n e) (first-entry f (suc n) t)
+
+abbrev pub bad-entry : ℕ → Entry → Option ℕ
+bad-entry n e = given (not (is-limited 5 (e .kind)) || eqb (e .operand) 0) n
+
+unfoldable pub table-rule-13 : List Entry → Option Refusal
+table-rule-13 t = and-then (first-entry bad-entry 0 t) (refuse 13)
+
+unfoldable pub table-rule-14 : List Entry → Option Refusal
+table-rule-14 t = unless (leb (length t) Limits.most-instructions) 14 Limits.most-instructions
+
+unfoldable pub table-rule-15 : ℕ → List Entry → Option Refusal
+table-rule-15 registers t = and-then (first-entry (lacks registers) 0 t) (refuse 15)
+
+unfoldable pub table-fault : List Entry → Option Refusal
+table-fault t = or-else (table-rule-11 t) (or-else (table-rule-13 t) (table-rule-14 t))
+
+-- A word read, rules 11 to 14, and a table handed in, rules 11, 13 and 14; on a machine, then 15
+unfoldable pub read-word : Bytes → Answer (List Entry)
+read-word w = answer (word-fault w) (word-entries w)
+
+unfoldable pub read-table : List Entry → Answer (List Entry)
+read-table t = answer (table-fault t) t
+
+unfoldable pub read-word-for : ℕ → Bytes → Answer (List Entry)
+read-word-for registers w = answer (or-else (word-fault w) (rule-15 registers (word-entries w))) (word-entries w)
+
+unfoldable pub read-table-for : ℕ → List Entry → Answer (List Entry)
+read-table-for registers t = answer (or-else (table-fault t) (table-rule-15 registers t)) t
+
+-- The instructions of an accepted table
+abbrev pub instructions : List Entry → List Instruction
+instructions t = present (map instruction-of t)
+
+-- Sheets: rules 16 to 18, of a program of K variables
+
+-- "The sheet is empty, too long, or doesn't end in LF (place 0)"
+unfoldable pub sheet-size-fault : Bytes → Option Refusal
+sheet-size-fault t = unless (leb (length t) Limits.most-sheet-bytes && ends-in-LF t) 16 0
+
+-- The names line: 16 for its shape; "A name isn't below K or comes twice", 17
+abbrev pub names-fault : ℕ → Option (List ℕ) → Option Refusal
+names-fault K none = refuse 16 1
+names-fault K (some ns) = unless (leb (above ns) K && distinct ns) 17 1
+
+-- Line n of values, for so many names: 16 for its shape or count; "A value is above the capacity", 18
+abbrev pub values-fault : ℕ → ℕ → ℕ → Option (List ℕ) → Option Refusal
+values-fault capacity count n none = refuse 16 n
+values-fault capacity count n (some vs) = or-else (unless (eqb (length vs) count) 16 n) (unless (all (λ v. leb v capacity) vs) 18 n)
+
+unfoldable pub rows-fault : ℕ → ℕ → ℕ → List Bytes → Option Refusal
+rows-fault capacity count n [] = none
+rows-fault capacity count n (l ∷ ls) = or-else (values-fault capacity count n (values l)) (rows-fault capacity count (suc n) ls)
+
+-- The names of a sheet, in order
+abbrev pub names-of : List Bytes → List ℕ
+names-of [] = []
+names-of (l ∷ ls) = elim (names l) [ none ↦ [] | some ns ↦ ns ]
+
+abbrev pub sheet-lines-fault : ℕ → ℕ → List Bytes → Option Refusal
+sheet-lines-fault capacity K [] = none
+sheet-lines-fault capacity K (l ∷ ls) = or-else (names-fault K (names l)) (rows-fault capacity (length (names-of (l ∷ ls))) 2 ls)
+
+-- "16 to 18 [go line by line] after the size rules of 16"
+unfoldable pub sheet-fault : ℕ → ℕ → Bytes → Option Refusal
+sheet-fault capacity K t = or-else (sheet-size-fault t) (sheet-lines-fault capacity K (split-lines t))
+
+-- Lent outputs
+
+-- "A lent output is shorter than the result (place 0)"
+unfoldable pub rule-19 : {A B : Type 0} → List A → List B → Option Refusal
+rule-19 lent result = unless (leb (length result) (length lent)) 19 0
+
+-- A result for a lent output, checked last
+abbrev pub lend : {A B : Type 0} → List A → Answer (List B) → Answer (List B)
+lend lent r = after r λ l. answer (rule-19 lent l) l
+
+-- The lent output afterwards: it begins with the result, and "bytes past any result" are "untouched"; on a refusal "Nothing lent changes"
+unfoldable pub lent-after : {A : Type 0} → List A → Answer (List A) → List A
+lent-after lent (done l) = l ++ drop (length l) lent
+lent-after lent (refused r) = lent
