@@ -37,6 +37,10 @@ abbrev pub after : {A B : Type 0} → Answer A → (A → Answer B) → Answer B
 after (done a) f = f a
 after (refused r) f = refused r
 
+abbrev pub mapped : {A B : Type 0} → (A → B) → Answer A → Answer B
+mapped f (done a) = done (f a)
+mapped f (refused r) = refused r
+
 -- Programs: rules 1 to 8
 
 -- "The text is over 16,384 bytes (place 0)"
