@@ -12,3 +12,4 @@ pub mod TurnedDown
 pub mod RunTool
 pub mod Claims
 pub mod Bench
+pub mod Examples
