@@ -1,4 +1,4 @@
--- Runs with a budget, of any machine: the definition a case at a time, its induction, a budget cut in two, and what a loop that runs a machine keeps.
+-- Runs with a budget, of any machine: the definition a case at a time, its induction, a budget cut in two, and what a loop over steps keeps.
 use mathlib.Core.Path.{_≡_, refl, sym, ap, _∙_}
 use mathlib.Core.Bool.{Bool, true, false}
 use mathlib.Core.Option.{Option, none, some}
@@ -50,7 +50,8 @@ pub record Cases {S : Type 0} (M : Machine S) (P : ℕ → ℕ → S → Outcome
   pub step : (b n : ℕ) (s s′ : S) (o : Outcome S) → M .ended s ≡ none → ltb n last-count ≡ true → M .next s ≡ some s′
       → P b (suc n) s′ o → P (suc b) n s (stepped M o)
 
-pub run-induction : {S : Type 0} (M : Machine S) (P : ℕ → ℕ → S → Outcome S → Type 0) → Cases M P → (b n : ℕ) (s : S) → P b n s (run M b n s)
+pub run-induction : {S : Type 0} (M : Machine S) (P : ℕ → ℕ → S → Outcome S → Type 0) → Cases M P
+    → (b n : ℕ) (s : S) → P b n s (run M b n s)
 run-induction {S} M P c zero n s = at (M .ended s) refl
   where
     at : (x : Option End) → M .ended s ≡ x → P 0 n s (run M 0 n s)

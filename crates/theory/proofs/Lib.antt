@@ -1,2 +1,3 @@
 pub mod Budgets
+pub mod Unlimited
 pub mod Table
