@@ -1,3 +1,4 @@
 pub mod Budgets
+pub mod Unlimited
 pub mod Table
 pub mod ExamplesHold
