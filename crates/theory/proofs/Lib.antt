@@ -1,2 +1,3 @@
 pub mod Budgets
 pub mod Table
+pub mod Nesting
