@@ -2,3 +2,4 @@ pub mod Budgets
 pub mod Unlimited
 pub mod Table
 pub mod ExamplesHold
+pub mod Nesting
