@@ -1,2 +1,5 @@
 pub mod Budgets
 pub mod Table
+pub mod Cells
+pub mod Joins
+pub mod Partners
