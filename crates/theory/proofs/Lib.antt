@@ -5,3 +5,6 @@ pub mod ExamplesHold
 pub mod Nesting
 pub mod Faults
 pub mod Words
+pub mod Cells
+pub mod Joins
+pub mod Partners
