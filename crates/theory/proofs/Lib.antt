@@ -2,3 +2,4 @@ pub mod Budgets
 pub mod Table
 pub mod Faults
 pub mod Words
+pub mod Numerals
