@@ -331,14 +331,15 @@ sized p a =
     let b : Block = block-of p in
     let K : ℕ = variables p in
     let e : lines b ≡ p = well-nested p a in
-    let few : K ≤ 32 = few-variables p a in
-    let w : length (lines b) ≤ 512 = rw e (short p a) in
+    let few : K ≤ 32 = omega (arith, few-variables p a) in
+    let deep : nest b ≤ 16 = omega (arith, shallow p a) in
+    let w : length (lines b) ≤ 512 = rw e (omega (arith, short p a)) in
     record {
-      symbols = rw (spelled (word b), e) (omega (arith, code-weight K 0 16 b few (rw e few) (omega arith) (shallow p a)));
+      symbols = rw (spelled (word b), e) (omega (arith, code-weight K 0 16 b few (rw e few) (omega arith) deep));
       instructions = rw e (omega (arith, code-length K 0 b));
       operands = each-map (Fits (K + 17)) (λ i. 1 ≤ operand i) (λ i f. f .operand) (word-of p) (word-fits p a);
       registers = each-map (Fits (K + 17)) (NamesAtMost (K + 17)) (λ i f. f .register) (word-of p) (word-fits p a);
-      variables = few;
+      variables = few-variables p a;
     }
 
 -- So a set with 64 registers reads the word that is written, and its instructions are those of the word
