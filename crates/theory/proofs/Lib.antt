@@ -2,6 +2,7 @@ pub mod Nesting
 pub mod Sizes
 pub mod Budgets
 pub mod Unlimited
+pub mod GoodMemory
 pub mod Table
 pub mod ExamplesHold
 pub mod Faults
