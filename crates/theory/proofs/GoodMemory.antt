@@ -17,19 +17,12 @@ use Rattle.theory.specs.Limits.{most-registers, most-capacity}
 use Rattle.theory.specs.Word.{Symbol, one, hash, bytes-of, byte-of, symbol-of, is-symbol}
 use Rattle.theory.specs.Machines.{Memory, offset, laid, store-of, lengths-of, place-of, contents, refilled}
 use Rattle.theory.specs.Machines.{is-laid, is-limited, is-memory}
+use Rattle.theory.proofs.Faults.{and-first, and-second}
 
 -- Tests
 
 pub both : (a b : Bool) → a ≡ true → b ≡ true → (a && b) ≡ true
 both a b p q = rw (p, q)
-
-pub and-first : (a b : Bool) → (a && b) ≡ true → a ≡ true
-and-first true b h = refl
-and-first false b h = h
-
-pub and-second : (a b : Bool) → (a && b) ≡ true → b ≡ true
-and-second true b h = h
-and-second false b h = absurd (false≢true h)
 
 -- four tests, and a fifth
 AllFive : Bool → Bool → Bool → Bool → Bool → Type 0
