@@ -1,3 +1,4 @@
+pub mod Nesting
 pub mod Budgets
 pub mod Unlimited
 pub mod Table
