@@ -1,4 +1,5 @@
 pub mod Nesting
+pub mod Sizes
 pub mod Budgets
 pub mod Unlimited
 pub mod Table
