@@ -1,5 +1,6 @@
 pub mod Nesting
 pub mod Sizes
+pub mod Lists
 pub mod Budgets
 pub mod Unlimited
 pub mod GoodMemory
