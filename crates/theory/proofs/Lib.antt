@@ -8,3 +8,11 @@ pub mod Words
 pub mod Cells
 pub mod Joins
 pub mod Partners
+pub mod Steps
+pub mod Paths
+pub mod Sites
+pub mod Matching
+pub mod Simulate
+pub mod Stops
+pub mod Whole
+pub mod Demand
