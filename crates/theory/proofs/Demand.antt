@@ -1,6 +1,6 @@
--- Demand 3 of blocks and of programs, the source full exactly when its word is, and the charges as printed.
+-- Demand 3, of blocks and of programs, and the charges as the run tool prints them.
 use mathlib.Core.Path.{_≡_, refl, sym, ap, _∙_, subst}
-use mathlib.Core.Logic.{_≢_, _⊎_, inl, inr, ⊎-elim, _↔_}
+use mathlib.Core.Logic.{_≢_, ⊎-elim}
 use mathlib.Core.Bool.{true}
 use mathlib.Core.Option.{Option, none, some, Option·none-ne-some, Option·some-injective}
 use mathlib.Core.List.{List}
@@ -15,6 +15,7 @@ use Rattle.theory.specs.Runs.{Machine, Outcome, run, Goes, each, unlimit
 use Rattle.theory.specs.ProgramText.{Command, variables, Block, lines, block-of}
 use Rattle.theory.specs.Source as S
 use Rattle.theory.specs.Word as W
+use Rattle.theory.specs.Word.{Instruction}
 use Rattle.theory.specs.Translation.{word, word-of, charge}
 use Rattle.theory.specs.Machines.{fresh-source, fresh-word, holding}
 use Rattle.theory.specs.TurnedDown.{done, read-text}
@@ -22,31 +23,21 @@ use Rattle.theory.specs.RunTool.{tool-source, tool-word}
 use Rattle.theory.specs.Claims.{Accepted, Ends, SourceRun, WordRun, Demand3, DemandOfBlocks, DemandOfPrograms, FullTogether, ChargesAsPrinted}
 use Rattle.theory.specs.declared.End.{End}
 use Rattle.theory.specs.declared.End.the-variants.{Halted, Strayed, Spent, Full}
-use Rattle.theory.proofs.Unlimited.{word-live}
+use Rattle.theory.proofs.Unlimited.{word-live, source-unlimited, word-unlimited}
 use Rattle.theory.proofs.Nesting.{well-nested, reads-accepted}
 use Rattle.theory.proofs.Joins.{only-end, at-cost}
+use Rattle.theory.proofs.Endings.{ended-stops}
 use Rattle.theory.proofs.Matching.{Roomy}
 use Rattle.theory.proofs.Stops.{Even, here, Stopped, stop-both, halted-line, word-halts}
 use Rattle.theory.proofs.Whole.{Followed, followed, reached, final-registers}
 
--- Both kinds of room will do
+-- Unlimited registers have the room that the simulation asks for
 
 unlimited-roomy : (K : ℕ) → Roomy unlimited K
 unlimited-roomy K = record { less = λ r n h. refl; in-scratch = λ i n l h. refl; in-counter = λ i n d l h. refl }
 
 unlimited-even : (K : ℕ) → Even unlimited K
 unlimited-even K i j n l l′ h = refl
-
-within-roomy : (capacity K : ℕ) → Roomy (within capacity) K
-within-roomy capacity K = record {
-  less = λ r n h. let more : suc n ≤ capacity = leb-true (suc n) capacity h in le-leb n capacity (omega arith);
-  in-scratch = λ i n l h. h;
-  in-counter = λ i n d l h. h;
-}
-
--- One capacity for all registers
-within-even : (capacity K : ℕ) → Even (within capacity) K
-within-even capacity K i j n l l′ h = h
 
 -- Demand 3
 
@@ -97,3 +88,21 @@ demand-of-programs = (
   λ t p h. demand-of-accepted p (reads-accepted .0 t p h),
   λ l p h. demand-of-accepted p (reads-accepted .1 l p h),
 )
+
+-- What the run tool prints for both as halted are the unlimited runs, and each is the only one that ends
+pub charges-as-printed : ChargesAsPrinted
+unfolding tool-source tool-word
+charges-as-printed t p h v e e′ =
+    let w : List Instruction = word-of p in
+    let o : Outcome W.State = tool-word p v in
+    let ends : (u : W.State) (e : End) → Ends (W.machine unlimited w) e u → W.step unlimited w u ≡ none =
+    ended-stops (W.machine unlimited w) (word-live unlimited w) in
+    let not-spent : o .end ≢ Spent = λ z. let y : _≡_ {A = ℕ} 0 1 = cc in omega arith in
+    let not-full : o .end ≢ Full = λ z. let y : _≡_ {A = ℕ} 0 1 = cc in omega arith in
+    let source : _ = source-unlimited p Limits.tool-capacity Limits.tool-source-budget 0 (fresh-source v) e in
+    let its-word : _ = word-unlimited w Limits.tool-capacity Limits.tool-word-budget 0 (fresh-word (variables p) v) not-spent not-full in
+    let charged : _ = at-cost (charge p) (source .0) in
+    let halted : _ = demand-of-programs .0 t p h v .halts (charged .0) (tool-source p v .state) (charged .1) (source .1) in
+    let same : (o .steps ≡ 1 + charged .0) × (o .state ≡ halted .0) =
+    only-end (its-word .0) (halted .1) (ends (o .state) (o .end) (its-word .1)) (ends (halted .0) Halted (halted .2)) in
+    (charged .0, charged .1, source .0, same .0, λ r l. ap (λ s. s .registers r) (same .1) ∙ halted .3 r l)

@@ -5,6 +5,7 @@ pub mod ExamplesHold
 pub mod Nesting
 pub mod Faults
 pub mod Words
+pub mod Endings
 pub mod Cells
 pub mod Joins
 pub mod Partners
@@ -16,3 +17,4 @@ pub mod Simulate
 pub mod Stops
 pub mod Whole
 pub mod Demand
+pub mod Together

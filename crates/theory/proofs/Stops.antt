@@ -20,6 +20,7 @@ use Rattle.theory.specs.Translation.{register, word}
 use Rattle.theory.specs.declared.End.{End}
 use Rattle.theory.specs.declared.End.the-variants.{Halted}
 use Rattle.theory.proofs.Unlimited.{word-live}
+use Rattle.theory.proofs.Endings.{ended-stops}
 use Rattle.theory.proofs.Cells.{at-there}
 use Rattle.theory.proofs.Steps.{standing, step-append, step-full}
 use Rattle.theory.proofs.Partners.{named-below}
@@ -94,11 +95,10 @@ module _ (room : Room) (b : Block) where
       rw (eq-eqb (place K p (s .line)) (suc (length w)) q)
 
   both-halted : (s : State) (n : ℕ → ℕ) → s .line ≡ suc (length p) → Stopped s n
-  both-halted s n h = (none-on (W.step room w (here s n)) refl, inl (rw (eq-eqb (s .line) (suc (length p)) h), word-halts s n h))
-    where
-      none-on : (o : Option W.State) → W.step room w (here s n) ≡ o → o ≡ none
-      none-on none e = refl
-      none-on (some t) e = absurd (Option·none-ne-some Halted (sym (word-live room w (here s n) t e) ∙ word-halts s n h))
+  both-halted s n h = (
+    ended-stops (W.machine room w) (word-live room w) (here s n) Halted (word-halts s n h),
+    inl (rw (eq-eqb (s .line) (suc (length p)) h), word-halts s n h),
+  )
 
   module _ (E : Even room K) where
     both-full : (s : State) (n : ℕ → ℕ) → Match room K p s n → (c : Command) → at p (s .line) ≡ some c → s .line ≤ length p
