@@ -75,17 +75,7 @@ pub sits-self : {A : Type 0} (xs : List A) → Sits xs 1 xs
 sits-self [] = tt
 sits-self (x ∷ xs) = (refl, sits-later x xs 1 xs (sits-self xs))
 
--- What stands at a place stands within the list
-getElem-within : {A : Type 0} (l : List A) (n : ℕ) (a : A) → getElem? l n ≡ some a → n < length l
-getElem-within [] n a e = absurd (Option·none-ne-some a e)
-getElem-within (x ∷ l) zero a e = omega arith
-getElem-within (x ∷ l) (suc n) a e = omega (arith, getElem-within l n a e)
-
-pub at-within : {A : Type 0} (l : List A) (n : ℕ) (a : A) → at l n ≡ some a → (0 < n) × (n ≤ length l)
-at-within l zero a e = absurd (Option·none-ne-some a e)
-at-within l (suc n) a e = let h : n < length l = getElem-within l n a e in (omega arith, omega arith)
-
--- and something stands at each place within
+-- Something stands at each place within a list
 getElem-there : {A : Type 0} (l : List A) (n : ℕ) → n < length l → (a : A) × (getElem? l n ≡ some a)
 getElem-there [] n h = absurd (omega arith)
 getElem-there (a ∷ l) zero h = (a, refl)
@@ -94,8 +84,3 @@ getElem-there (a ∷ l) (suc n) h = getElem-there l n (omega arith)
 pub at-there : {A : Type 0} (l : List A) (n : ℕ) → 0 < n → n ≤ length l → (a : A) × (at l n ≡ some a)
 at-there l zero h g = absurd (omega arith)
 at-there l (suc n) h g = getElem-there l n (omega arith)
-
--- and nothing just past it
-pub at-past : {A : Type 0} (l : List A) → at l (suc (length l)) ≡ none
-at-past [] = refl
-at-past (a ∷ l) = at-past l

@@ -8,7 +8,17 @@ pub mod Table
 pub mod ExamplesHold
 pub mod Faults
 pub mod Words
+pub mod Endings
 pub mod Cells
 pub mod Joins
 pub mod Partners
 pub mod Numerals
+pub mod Steps
+pub mod Paths
+pub mod Sites
+pub mod Matching
+pub mod Simulate
+pub mod Stops
+pub mod Whole
+pub mod Demand
+pub mod Together
