@@ -12,3 +12,4 @@ pub mod Cells
 pub mod Joins
 pub mod Partners
 pub mod Numerals
+pub mod Texts
