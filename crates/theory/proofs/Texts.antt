@@ -2,23 +2,24 @@
 use mathlib.Core.Path.{_≡_, refl, sym, ap, ap₂, _∙_, subst}
 use mathlib.Core.Logic.{_↔_}
 use mathlib.Core.Bool.{Bool, true, false, not, _||_, or-true}
-use mathlib.Core.Option.{Option, none, some, Option·map, Option·some-injective, Option·none-ne-some, Option·some-ne-none}
-use mathlib.Core.List.{List, [], _∷_, _++_, map, append-nil}
-use Prim.Native.Nat.{ℕ, suc, _*_, _≤_, _<_}
+use mathlib.Core.Option.{Option, none, some, Option·map, Option·some-injective, Option·none-ne-some}
+use mathlib.Core.List.{List, [], _∷_, _++_, map, append-nil, head-eq-of-cons-eq, tail-eq-of-cons-eq}
+use Prim.Native.Nat.{ℕ, _*_, _≤_, _<_}
 use native.Mathlib.Omega.{arith}
-use lib.ListN.{length, length-append, length-map}
-use lib.Dec.{eqb, leb, eqb·suc-zero}
-use borrow.Author.Tests.{eqb-true, eq-eqb, ne-eqb, leb-true, le-leb, not-true}
+use lib.ListN.{length, length-append}
+use lib.Dec.{eqb, eqb·suc-zero}
+use borrow.Author.Tests.{eqb-true, eq-eqb, ne-eqb, le-leb, not-true}
 use Rattle.theory.specs.Limits
 use Rattle.theory.specs.Basics.{given, or-else, and-then, present, all}
 use Rattle.theory.specs.Text.{Bytes, bytes, LF, after, same, is-digit, name, decimal, name-of}
 use Rattle.theory.specs.Text.{onto-first, split-lines, ends-in-LF}
-use Rattle.theory.specs.ProgramText.{clear, increment, copy, loop, while, Command, plain, opens, closes, indices, above}
+use Rattle.theory.specs.ProgramText.{clear, increment, copy, loop, while, Command, plain, opens, closes}
 use Rattle.theory.specs.ProgramText.{spelling, text-of, around, assigns, command}
-use Rattle.theory.specs.TurnedDown.{unless, done, rule-1, rule-2, rule-3, Open, line-fault, open-next, lines-fault, program-fault}
+use Rattle.theory.specs.TurnedDown.{done, rule-1, rule-2}
 use Rattle.theory.specs.TurnedDown.{text-lines, text-fault, read-text}
 use Rattle.theory.specs.Claims.{Accepted, EachOf, TextRoundTrip}
-use Rattle.theory.proofs.Faults.{none-first, none-second, and-then-some, given-some, answer-done, unless-none, and-first, and-second}
+use Rattle.theory.proofs.Faults.{none-first, none-second, and-then-some, given-some, unless-none, and-first, and-second}
+use Rattle.theory.proofs.Nesting.{LowIndices, low, short, nothing-missing, text-read, text-sound}
 use Rattle.theory.proofs.Numerals.{NoDigit, found, name-name-of, name-spelled, all-append}
 use Rattle.theory.proofs.Numerals.{digit-least, decimal-digits, decimal-short}
 
@@ -264,7 +265,7 @@ unfolding name-of
 name-short i h = omega (arith, decimal-short i h)
 
 -- A line has 17 bytes at most, and LF
-pub spelling-short : (c : Command) → above (indices c) ≤ suc Limits.most-index → length (spelling c) ≤ 17
+pub spelling-short : (c : Command) → LowIndices c → length (spelling c) ≤ 17
 unfolding spelling
 spelling-short (plain (clear i)) h = let n : _ = name-short i (omega arith) in simp length-append (omega arith)
 spelling-short (plain (increment i)) h = let n : _ = name-short i (omega arith) in simp length-append (omega arith)
@@ -277,18 +278,7 @@ spelling-short (closes loop i) h = omega (arith, name-short i (omega arith))
 spelling-short (opens while i) h = let n : _ = name-short i (omega arith) in simp length-append (omega arith)
 spelling-short (closes while i) h = let n : _ = name-short i (omega arith) in simp length-append (omega arith)
 
--- Rule 5: the indices of a program that rules 4 to 8 don't turn down
-pub indices-limited : (n : ℕ) (os : List Open) (p : List Command) → lines-fault n os (map some p) ≡ none
-    → EachOf (λ c. above (indices c) ≤ suc Limits.most-index) p
-unfolding lines-fault
-indices-limited n os [] h = tt
-indices-limited n os (c ∷ p) h =
-    let test : Bool = leb (above (indices c)) (suc Limits.most-index) in
-    let line : line-fault n os (some c) ≡ none = none-first (line-fault n os (some c)) _ h in
-    let rest : _ = none-second (line-fault n os (some c)) _ h in
-    (leb-true _ _ (unless-none test 5 n (none-first (unless test 5 n) _ line)), indices-limited (suc n) (open-next n os (some c)) p rest)
-
-text-short : (p : List Command) → EachOf (λ c. above (indices c) ≤ suc Limits.most-index) p → length (text-of p) ≤ 18 * length p
+text-short : (p : List Command) → EachOf LowIndices p → length (text-of p) ≤ 18 * length p
 unfolding text-of
 text-short [] h = omega arith
 text-short (c ∷ p) h =
@@ -298,39 +288,34 @@ text-short (c ∷ p) h =
 
 -- The text of an accepted program is read
 pub text-accepted : (p : List Command) → Accepted p → text-fault (text-of p) ≡ none
-unfolding text-fault rule-1 rule-2 rule-3 program-fault
+unfolding text-fault rule-1 rule-2
 text-accepted p h =
-    let size : rule-3 (map some p) ≡ none = none-first (rule-3 (map some p)) _ h in
-    let count : length (map some p) ≤ Limits.most-lines = leb-true _ _ (unless-none _ 3 (suc Limits.most-lines) size) in
-    let limited : _ = indices-limited 1 [] p (none-second (rule-3 (map some p)) _ h) in
-    let short : length (text-of p) ≤ Limits.most-bytes = omega (arith, text-short p limited, length-map p some) in
-    rw (le-leb (length (text-of p)) Limits.most-bytes short, text-ended p, text-lines-of p) h
+    let fits : length (text-of p) ≤ Limits.most-bytes = omega (arith, text-short p (low p h), short p h) in
+    rw (le-leb (length (text-of p)) Limits.most-bytes fits, text-ended p, text-lines-of p) h
 
 -- What is read is written again
+
+-- Lines that are read as a program are its lines
+pub text-of-lines : (ls : List Bytes) (p : List Command) → map some p ≡ map command ls → text-of p ≡ joined ls
+unfolding text-of
+text-of-lines [] [] h = refl
+text-of-lines [] (c ∷ p) h = cc
+text-of-lines (l ∷ ls) [] h = cc
+text-of-lines (l ∷ ls) (c ∷ p) h =
+    let line : spelling c ≡ l = spelling-of-command l c (sym (head-eq-of-cons-eq h)) in
+    ap₂ {C = Bytes} (λ s r. s ++ (LF ∷ r)) line (text-of-lines ls p (tail-eq-of-cons-eq h))
 
 whole-lines : (t : Bytes) → Ended t → joined (split-lines t) ≡ t
 unfolding split-lines
 whole-lines [] h = refl
 whole-lines (b ∷ t) h = joined-lines (b ∷ t) (ended-cons b t h)
 
-pub text-of-lines : (n : ℕ) (os : List Open) (ls : List Bytes) → lines-fault n os (map command ls) ≡ none
-    → text-of (present (map command ls)) ≡ joined ls
-unfolding lines-fault text-of
-text-of-lines n os [] h = refl
-text-of-lines n os (l ∷ ls) h = go (command l) refl (λ os. text-of-lines (suc n) os ls)
-  where
-    go : (x : Option Command) → command l ≡ x
-        → ((os : List Open) → lines-fault (suc n) os (map command ls) ≡ none → text-of (present (map command ls)) ≡ joined ls)
-        → text-of (present (command l ∷ map command ls)) ≡ l ++ (LF ∷ joined ls)
-    go none e rest = absurd (Option·some-ne-none _ (rw e at h))
-    go (some c) e rest =
-        let line : spelling c ≡ l = spelling-of-command l c e in
-        let os′ : List Open = open-next n os (some c) in
-        let fine : lines-fault (suc n) os′ (map command ls) ≡ none = none-second (line-fault n os (some c)) _ (rw e at h) in
-        rw e (ap₂ {C = Bytes} (λ s r. s ++ (LF ∷ r)) line (rest os′ fine))
+text-fault-ended : (t : Bytes) → text-fault t ≡ none → Ended t
+unfolding text-fault rule-2
+text-fault-ended t h = unless-none _ 2 (length (split-lines t)) (none-first (rule-2 t) _ (none-second (rule-1 t) _ h))
 
 pub text-round-trip : TextRoundTrip
-unfolding read-text text-fault rule-2 program-fault
+unfolding read-text
 text-round-trip = (read, written)
   where
     read : (p : List Command) → Accepted p → read-text (text-of p) ≡ done p
@@ -338,8 +323,6 @@ text-round-trip = (read, written)
 
     written : (t : Bytes) (p : List Command) → read-text t ≡ done p → text-of p ≡ t
     written t p h =
-        let a : _ = answer-done (text-fault t) (present (text-lines t)) p h in
-        let rest : or-else (rule-2 t) (program-fault (text-lines t)) ≡ none = none-second (rule-1 t) _ (a .0) in
-        let ended : Ended t = unless-none _ 2 (length (split-lines t)) (none-first (rule-2 t) _ rest) in
-        let lines : lines-fault 1 [] (text-lines t) ≡ none = none-second (rule-3 (text-lines t)) _ (none-second (rule-2 t) _ rest) in
-        ap text-of (sym (a .1)) ∙ text-of-lines 1 [] (split-lines t) lines ∙ whole-lines t ended
+        let found : _ = text-read t p h in
+        let lines : map some (present (text-lines t)) ≡ text-lines t = nothing-missing (text-lines t) (text-sound t (found .0)) in
+        text-of-lines (split-lines t) p (rw (found .1) at lines) ∙ whole-lines t (text-fault-ended t (found .0))
