@@ -20,6 +20,7 @@ use Rattle.theory.specs.TurnedDown.{text-lines, text-fault, read-text}
 use Rattle.theory.specs.Claims.{Accepted, EachOf, TextRoundTrip}
 use Rattle.theory.proofs.Faults.{none-first, none-second, and-then-some, given-some, unless-none, and-first, and-second}
 use Rattle.theory.proofs.Nesting.{LowIndices, low, short, nothing-missing, text-read, text-sound}
+use Rattle.theory.proofs.Lists.{present-some}
 use Rattle.theory.proofs.Numerals.{NoDigit, found, name-name-of, name-spelled, all-append}
 use Rattle.theory.proofs.Numerals.{digit-least, decimal-digits, decimal-short}
 
@@ -212,10 +213,6 @@ text-lines-of p = ap (map command) (split-text p) ∙ read p
     read : (p : List Command) → map command (map spelling p) ≡ map some p
     read [] = refl
     read (c ∷ p) = ap₂ {C = List (Option Command)} _∷_ (command-of-spelling c) (read p)
-
-pub present-some : {A : Type 0} (l : List A) → present (map some l) ≡ l
-present-some [] = refl
-present-some {A} (x ∷ l) = ap {B = List A} (λ r. x ∷ r) (present-some l)
 
 -- Lines with LF after each: the text again, where its last byte is LF
 abbrev pub joined : List Bytes → Bytes
