@@ -10,3 +10,4 @@ pub mod Cells
 pub mod Joins
 pub mod Partners
 pub mod Numerals
+pub mod Texts
