@@ -22,3 +22,4 @@ pub mod Stops
 pub mod Whole
 pub mod Demand
 pub mod Together
+pub mod Texts
