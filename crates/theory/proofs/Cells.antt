@@ -75,7 +75,17 @@ pub sits-self : {A : Type 0} (xs : List A) → Sits xs 1 xs
 sits-self [] = tt
 sits-self (x ∷ xs) = (refl, sits-later x xs 1 xs (sits-self xs))
 
--- Something stands at each place within a list
+-- What stands at a place stands within the list
+getElem-within : {A : Type 0} (l : List A) (n : ℕ) (a : A) → getElem? l n ≡ some a → n < length l
+getElem-within [] n a e = absurd (Option·none-ne-some a e)
+getElem-within (x ∷ l) zero a e = omega arith
+getElem-within (x ∷ l) (suc n) a e = omega (arith, getElem-within l n a e)
+
+pub at-within : {A : Type 0} (l : List A) (n : ℕ) (a : A) → at l n ≡ some a → (0 < n) × (n ≤ length l)
+at-within l zero a e = absurd (Option·none-ne-some a e)
+at-within l (suc n) a e = let h : n < length l = getElem-within l n a e in (omega arith, omega arith)
+
+-- and something stands at each place within
 getElem-there : {A : Type 0} (l : List A) (n : ℕ) → n < length l → (a : A) × (getElem? l n ≡ some a)
 getElem-there [] n h = absurd (omega arith)
 getElem-there (a ∷ l) zero h = (a, refl)

@@ -10,8 +10,7 @@ use lib.Seq.{take-length}
 use Rattle.theory.specs.Basics.{at}
 use Rattle.theory.specs.ProgramText.{Kind, Plain, Command, plain, opens, closes, indices, above, variables, Block, end, line, pair, lines}
 use Rattle.theory.specs.Source.{ahead, closing, Opening, closed, open-after, open-at, innermost, opening, deeper, loops, depth}
-use Rattle.theory.proofs.Unlimited.{at-within}
-use Rattle.theory.proofs.Cells.{Sits, sits-left, sits-right, sits-self}
+use Rattle.theory.proofs.Cells.{at-within, Sits, sits-left, sits-right, sits-self}
 
 -- What holds of a block that begins at a line, told of every line of the block
 

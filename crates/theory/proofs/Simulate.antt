@@ -30,8 +30,7 @@ use Rattle.theory.specs.Translation.{
   charge-fetched,
   charge,
 }
-use Rattle.theory.proofs.Unlimited.{at-within}
-use Rattle.theory.proofs.Cells.{put-same, put-other, put-cases, put-put, put-id, Sits, sits-left, sits-right}
+use Rattle.theory.proofs.Cells.{at-within, put-same, put-other, put-cases, put-put, put-id, Sits, sits-left, sits-right}
 use Rattle.theory.proofs.Joins.{ends, join}
 use Rattle.theory.proofs.Steps.{standing, step-append, step-forward, step-backward, step-empty, step-one}
 use Rattle.theory.proofs.Paths.{Fits, Run, clears, puts-back, touches, spreads, copies}
