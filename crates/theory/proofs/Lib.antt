@@ -4,6 +4,7 @@ pub mod Lists
 pub mod Budgets
 pub mod Unlimited
 pub mod GoodMemory
+pub mod GoodSource
 pub mod Table
 pub mod ExamplesHold
 pub mod Faults
