@@ -1,4 +1,4 @@
--- Runs with a budget, of any machine: the definition a case at a time, its induction, a budget cut in two, and what a loop over steps keeps.
+-- Runs with a budget, of any machine: the definition a case at a time, its induction, a budget cut in two, and what a loop of steps keeps.
 use mathlib.Core.Path.{_≡_, refl, sym, ap, _∙_}
 use mathlib.Core.Bool.{Bool, true, false}
 use mathlib.Core.Option.{Option, none, some}
