@@ -111,6 +111,26 @@ pub ends-weight-while : (K d i m : ℕ) → ends-weight K d while i m ≡ 2 * re
 ends-weight-while K d i m = omega arith
 
 module _ (K d : ℕ) where
+  pub spell-line : (c : Plain) (b : Block) → spell (code K d (line c b)) ≡ spell (plain-code K c) ++ spell (code K d b)
+  unfolding code
+  spell-line c b = spell-append (plain-code K c) (code K d b)
+
+  pub spell-pair : (k : Kind) (i : ℕ) (body b : Block)
+      → let inner = code K (deeper k d) body in
+      let m = length inner in
+      spell (code K d (pair k i body b))
+      ≡ spell (before-body K d k i m) ++ (spell inner ++ (spell (after-body k m ∷ []) ++ spell (code K d b)))
+  unfolding code
+  spell-pair k i body b =
+      let inner : List Instruction = code K (deeper k d) body in
+      let m : ℕ = length inner in
+      let last : List Instruction = after-body k m ∷ [] in
+      rw (
+        spell-append (before-body K d k i m) (inner ++ (last ++ code K d b)),
+        spell-append inner (last ++ code K d b),
+        spell-append last (code K d b),
+      )
+
   pub length-line : (c : Plain) (b : Block) → length (code K d (line c b)) ≡ length (plain-code K c) + length (code K d b)
   unfolding code
   length-line c b = length-append (plain-code K c) (code K d b)
