@@ -94,8 +94,3 @@ getElem-there (a ∷ l) (suc n) h = getElem-there l n (omega arith)
 pub at-there : {A : Type 0} (l : List A) (n : ℕ) → 0 < n → n ≤ length l → (a : A) × (at l n ≡ some a)
 at-there l zero h g = absurd (omega arith)
 at-there l (suc n) h g = getElem-there l n (omega arith)
-
--- and nothing just past it
-pub at-past : {A : Type 0} (l : List A) → at l (suc (length l)) ≡ none
-at-past [] = refl
-at-past (a ∷ l) = at-past l

@@ -10,7 +10,7 @@ use lib.Seq.{take-length}
 use Rattle.theory.specs.Basics.{at}
 use Rattle.theory.specs.ProgramText.{Kind, Plain, Command, plain, opens, closes, indices, above, variables, Block, end, line, pair, lines}
 use Rattle.theory.specs.Source.{ahead, closing, Opening, closed, open-after, open-at, innermost, opening, deeper, loops, depth}
-use Rattle.theory.proofs.Cells.{Sits, sits-left, sits-right, sits-self, at-within}
+use Rattle.theory.proofs.Cells.{at-within, Sits, sits-left, sits-right, sits-self}
 
 -- What holds of a block that begins at a line, told of every line of the block
 
@@ -100,7 +100,7 @@ drop-next [] n c e = absurd (Option·none-ne-some c e)
 drop-next {A} (x ∷ p) zero c e = ap {B = List A} (λ y. y ∷ p) (Option·some-injective x c e)
 drop-next (x ∷ p) (suc n) c e = drop-next p n c e
 
-slide : (n k : ℕ) → n + suc k ≡ suc n + k
+pub slide : (n k : ℕ) → n + suc k ≡ suc n + k
 slide n k = omega arith
 
 drop-along : {A : Type 0} (p l : List A) (n : ℕ) → Sits p (suc n) l → drop n p ≡ l ++ drop (n + length l) p
@@ -114,7 +114,7 @@ module _ (p : List Command) where
   unfolding open-at
   open-next zero c e = absurd (Option·none-ne-some c e)
   open-next (suc n) c e =
-      let inside : (0 < suc n) × (suc n ≤ length p) = at-within p (suc n) c e in
+      let inside : (1 ≤ suc n) × (suc n ≤ length p) = at-within p (suc n) c e in
       let before : length (take n p) ≡ n = rw length-take (omega (arith, inside .1)) in
       ap (λ l. open-after l 1 []) (take-next p n c e)
       ∙ (open-after-append (take n p) (c ∷ []) 1 [] ∙ ap (λ k. open-after (c ∷ []) k (open-after (take n p) 1 [])) (omega arith))
