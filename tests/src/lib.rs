@@ -1,7 +1,10 @@
 //! The twin: document 01 implemented once more, from the document alone, in plain Rust. The library is held against it.
 
+#[cfg(feature = "library")]
+pub mod library;
 pub mod machine;
 pub mod program;
+pub mod random;
 pub mod sheet;
 pub mod source;
 pub mod tool;
