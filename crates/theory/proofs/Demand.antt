@@ -1,26 +1,21 @@
 -- Demand 3, of blocks and of programs, and the charges as the run tool prints them.
 use mathlib.Core.Path.{_≡_, refl, sym, ap, _∙_, subst}
 use mathlib.Core.Logic.{_≢_, ⊎-elim}
-use mathlib.Core.Bool.{true}
-use mathlib.Core.Option.{Option, none, some, Option·none-ne-some, Option·some-injective}
+use mathlib.Core.Option.{none, Option·none-ne-some, Option·some-injective}
 use mathlib.Core.List.{List}
-use Prim.Native.Nat.{ℕ, suc, _+_, _≤_, _<_}
+use Prim.Native.Nat.{ℕ, suc, _+_, _<_}
 use native.Mathlib.Omega.{arith}
 use lib.ListN.{length}
-use lib.Dec.{leb}
-use borrow.Author.Tests.{le-leb, leb-true}
 use Rattle.theory.specs.Limits
-use Rattle.theory.specs.Text.{Bytes}
-use Rattle.theory.specs.Runs.{Machine, Outcome, run, Goes, each, unlimited, within}
+use Rattle.theory.specs.Runs.{Outcome, unlimited}
 use Rattle.theory.specs.ProgramText.{Command, variables, Block, lines, block-of}
 use Rattle.theory.specs.Source as S
 use Rattle.theory.specs.Word as W
 use Rattle.theory.specs.Word.{Instruction}
 use Rattle.theory.specs.Translation.{word, word-of, charge}
 use Rattle.theory.specs.Machines.{fresh-source, fresh-word, holding}
-use Rattle.theory.specs.TurnedDown.{done, read-text}
 use Rattle.theory.specs.RunTool.{tool-source, tool-word}
-use Rattle.theory.specs.Claims.{Accepted, Ends, SourceRun, WordRun, Demand3, DemandOfBlocks, DemandOfPrograms, FullTogether, ChargesAsPrinted}
+use Rattle.theory.specs.Claims.{Accepted, Ends, SourceRun, WordRun, Demand3, DemandOfBlocks, DemandOfPrograms, ChargesAsPrinted}
 use Rattle.theory.specs.declared.End.{End}
 use Rattle.theory.specs.declared.End.the-variants.{Halted, Strayed, Spent, Full}
 use Rattle.theory.proofs.Unlimited.{word-live, source-unlimited, word-unlimited}
@@ -28,8 +23,8 @@ use Rattle.theory.proofs.Nesting.{well-nested, reads-accepted}
 use Rattle.theory.proofs.Joins.{only-end, at-cost}
 use Rattle.theory.proofs.Endings.{ended-stops}
 use Rattle.theory.proofs.Matching.{Roomy}
-use Rattle.theory.proofs.Stops.{Even, here, Stopped, stop-both, halted-line, word-halts}
-use Rattle.theory.proofs.Whole.{Followed, followed, reached, final-registers}
+use Rattle.theory.proofs.Stops.{Even, here, stop-both, halted-line, word-halts}
+use Rattle.theory.proofs.Whole.{followed, reached, final-registers}
 
 -- Unlimited registers have the room that the simulation asks for
 
@@ -45,19 +40,22 @@ module _ (b : Block) (v : ℕ → ℕ) where
   abbrev R : Roomy unlimited (variables (lines b))
   R = unlimited-roomy (variables (lines b))
 
+  abbrev E : Even unlimited (variables (lines b))
+  E = unlimited-even (variables (lines b))
+
   -- Where the word has ended it has halted, and so has its source
   ended-halted : (m : ℕ) (t : W.State) (e : End) → WordRun (word b) (fresh-word (variables (lines b)) v) m t
       → Ends (W.machine unlimited (word b)) e t
       → (c : ℕ) × (s : S.State) × SourceRun (lines b) (fresh-source v) c s × Ends (S.machine unlimited (lines b)) Halted s × (e ≡ Halted)
   ended-halted m t e g h = ⊎-elim
       (λ y. absurd (Option·none-ne-some e (sym (word-live unlimited (word b) t (y .0) (y .1)) ∙ h)))
-      (λ y. let E : Even unlimited (variables (lines b)) = unlimited-even (variables (lines b)) in
-      let there : Ends (W.machine unlimited (word b)) e (here unlimited b (y .1) (y .2)) = subst (Ends (W.machine unlimited (word b)) e) (y .6) h in
+      (λ y. let ends : W.State → Type 0 = Ends (W.machine unlimited (word b)) e in
+      let there : ends (here unlimited b (y .1) (y .2)) = subst ends (y .6) h in
       ⊎-elim
       (λ z. (y .0, y .1, y .3, z .0, Option·some-injective e Halted (sym there ∙ z .1)))
       (λ z. absurd (Option·none-ne-some e (sym (z .1) ∙ there)))
       (stop-both unlimited b E (y .1) (y .2) (y .5) (y .4) .1))
-      (reached unlimited b R v (λ i l. refl) (unlimited-even (variables (lines b))) m t g)
+      (reached unlimited b R v (λ i l. refl) E m t g)
 
   halts : (c : ℕ) (s : S.State) → SourceRun (lines b) (fresh-source v) c s → Ends (S.machine unlimited (lines b)) Halted s
       → (t : W.State) × WordRun (word b) (fresh-word (variables (lines b)) v) (1 + c) t × Ends (W.machine unlimited (word b)) Halted t

@@ -25,8 +25,8 @@ ended-stops {S} M live s e h = go (M .next s) refl
     go (some t) x = absurd (Option·none-ne-some e (sym (live s t x) ∙ h))
 
 -- Of such a machine, whose states never end as full
-module _ {S : Type 0} (M : Machine S) (live : (s s′ : S) → M .next s ≡ some s′ → M .ended s ≡ none) (never : (s : S) → M .ended s ≢ some Full)
-    (b n : ℕ) (s : S) (paid : run M b n s .end ≢ Spent) where
+module _ {S : Type 0} (M : Machine S) (live : (s s′ : S) → M .next s ≡ some s′ → M .ended s ≡ none)
+    (never : (s : S) → M .ended s ≢ some Full) (b n : ℕ) (s : S) (paid : run M b n s .end ≢ Spent) where
   abbrev o : Outcome S
   o = run M b n s
 

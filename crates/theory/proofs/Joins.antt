@@ -49,8 +49,8 @@ compare {S} {next} {u} {t} {c} (move {s} {s′} {m} e g) h = go (λ c′ h′. c
 pub only-end : {S : Type 0} {next : S → Option S} {s u t : S} {m c : ℕ} → Goes next each s m u → Goes next each s c t
     → next u ≡ none → next t ≡ none → (m ≡ c) × (u ≡ t)
 only-end {S} {next} {u} {t} {m} {c} g h e f = ⊎-elim
-    (λ y. let k : y .0 ≡ 0 = over u t (y .0) e (y .2) .0 in let a : m + y .0 ≡ c = y .1 in (omega arith, over u t (y .0) e (y .2) .1))
-    (λ y. let k : y .0 ≡ 0 = over t u (y .0) f (y .2) .0 in let a : c + y .0 ≡ m = y .1 in (omega arith, sym (over t u (y .0) f (y .2) .1)))
+    (λ y. let z : (y .0 ≡ 0) × (u ≡ t) = over u t (y .0) e (y .2) in let a : m + y .0 ≡ c = y .1 in (omega (arith, z .0), z .1))
+    (λ y. let z : (y .0 ≡ 0) × (t ≡ u) = over t u (y .0) f (y .2) in let a : c + y .0 ≡ m = y .1 in (omega (arith, z .0), sym (z .1)))
     (compare g h)
   where
     over : (u t : S) (k : ℕ) → next u ≡ none → Goes next each u k t → (k ≡ 0) × (u ≡ t)

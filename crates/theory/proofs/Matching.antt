@@ -3,7 +3,7 @@ use mathlib.Core.Path.{_≡_, refl, sym, ap, _∙_}
 use mathlib.Core.Logic.{_≢_}
 use mathlib.Core.Bool.{Bool, true, false}
 use mathlib.Core.List.{List}
-use Prim.Native.Nat.{ℕ, zero, suc, pred, _+_, _≤_, _<_}
+use Prim.Native.Nat.{ℕ, zero, suc, pred, _≤_, _<_}
 use native.Mathlib.Omega.{arith}
 use lib.ListN.{length}
 use lib.Dec.{eqb}
@@ -30,8 +30,8 @@ fits room K R r (suc x) h k l = go (eqb k (suc x)) refl (fits room K R r x (R .l
     go true e f = ap (room r) (eqb-true k (suc x) e) ∙ h
     go false e f = let ne : k ≢ suc x = eqb-false k (suc x) e in f (omega arith)
 
--- The counts n at the first instruction of the line of s: each variable in its register, nothing in scratch, and in the counter of depth d one
--- less than the passes left there. No passes are left of loops that are not around the line
+-- The counts n at the first instruction of the line of s: each variable in its register, nothing in scratch, and in the counter of depth d
+-- one less than the passes left there. No passes are left of loops that are not around the line
 pub record Match (room : Room) (K : ℕ) (p : List Command) (s : State) (n : ℕ → ℕ) : Type 0 where
   pub from-first : 0 < s .line
   pub to-end : s .line ≤ suc (length p)

@@ -81,7 +81,8 @@ module _ (room : Room) (w : List Instruction) where
   puts-back q a h₁ h₂ x n e r =
       let back : put (put n a x) a (suc x) ≡ n = put-put n a x (suc x) ∙ put-id n a (suc x) e in
       move (step-one room w q n a x (suc (suc q)) (put n a x) h₁ e (omega arith) refl)
-      (move (step-append room w (suc (suc q)) (put n a x) a x (q + 3) n h₂ (put-same n a x) (r (suc x) (omega arith)) (omega arith) back) stay)
+      (move (step-append room w (suc (suc q)) (put n a x) a x (q + 3) n h₂ (put-same n a x) (r (suc x) (omega arith))
+      (omega arith) back) stay)
 
   pub touches : (q a : ℕ) → Sits w q (touching a) → (x : ℕ) (n : ℕ → ℕ) → n a ≡ x → Fits room a x
       → Run (standing q n) 2 (standing (q + 3) n)
@@ -107,7 +108,8 @@ module _ (room : Room) (w : List Instruction) where
         (move (step-append room w (suc (suc q)) (with x y z) b y (suc (suc (suc q))) (with x (suc y) z) (h .1 .1 .0)
         (three-b n a b t ab at′ bt x y z) (r₁ (suc y) (omega arith)) refl (set-b n a b t ab at′ bt x y z (suc y)))
         (move (step-append room w (suc (suc (suc q))) (with x (suc y) z) t z (suc (suc (suc (suc q)))) (with x (suc y) (suc z))
-        (h .1 .1 .1 .0) (three-t n a b t ab at′ bt x (suc y) z) (r₂ (suc z) (omega arith)) refl (set-t n a b t ab at′ bt x (suc y) z (suc z)))
+        (h .1 .1 .1 .0) (three-t n a b t ab at′ bt x (suc y) z) (r₂ (suc z) (omega arith)) refl
+        (set-t n a b t ab at′ bt x (suc y) z (suc z)))
         (move (step-backward room w (suc (suc (suc (suc q)))) (with x (suc y) (suc z)) 4 q (h .1 .1 .1 .1 .0) (omega arith))
         (shares q h x (suc y) (suc z) y′ z′ (omega arith) (omega arith) r₁ r₂)))))
 
@@ -137,7 +139,8 @@ module _ (room : Room) (w : List Instruction) where
         (returns (q + 5) h₂ x 0 x x (omega arith) ra)))
 
   -- and what was in b is cleared first
-  pub copies : (n : ℕ → ℕ) (a b t : ℕ) → a ≢ b → a ≢ t → b ≢ t → (q : ℕ) → Sits w q (copying a b t) → (x y : ℕ) → n a ≡ x → n b ≡ y → n t ≡ 0
+  pub copies : (n : ℕ → ℕ) (a b t : ℕ) → a ≢ b → a ≢ t → b ≢ t → (q : ℕ) → Sits w q (copying a b t)
+      → (x y : ℕ) → n a ≡ x → n b ≡ y → n t ≡ 0
       → Fits room a x → Fits room b x → Fits room t x → Run (standing q n) (2 * y + 7 * x + 6) (standing (q + 12) (put n b x))
   copies n a b t ab at′ bt q h x y ea eb et ra rb rt =
       let spread : List Instruction = sharing a b t ++ returning t a in

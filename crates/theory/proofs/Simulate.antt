@@ -1,20 +1,21 @@
 -- Each source step is as many steps of the word as it is charged, from match to match.
-use mathlib.Core.Path.{_≡_, refl, sym, ap, ap₂, _∙_, subst}
+use mathlib.Core.Path.{_≡_, refl, sym, ap, _∙_, subst}
 use mathlib.Core.Logic.{_≢_}
 use mathlib.Core.Bool.{Bool, true, false, cond}
 use mathlib.Core.Option.{Option, none, some, Option·none-ne-some, Option·some-injective}
 use mathlib.Core.List.{List, [], _∷_, _++_}
-use Prim.Native.Nat.{ℕ, zero, suc, pred, max, _+_, _*_, _≤_, _<_}
+use Prim.Native.Nat.{ℕ, zero, suc, pred, _+_, _*_, _≤_, _<_}
 use native.Mathlib.Omega.{arith}
 use lib.ListN.{length}
 use lib.Dec.{eqb}
 use borrow.Author.Tests.{eqb-true, eqb-false}
 use Rattle.theory.specs.Basics.{at, put, given}
 use Rattle.theory.specs.Runs.{Room, stay, move}
-use Rattle.theory.specs.ProgramText.{loop, while, clear, increment, copy, Command, plain, opens, closes, indices, above}
+use Rattle.theory.specs.ProgramText.{Kind, loop, while, clear, increment, copy, Command, plain, opens, closes, indices, above}
 use Rattle.theory.specs.Source as S
 use Rattle.theory.specs.Source.{State, closing, opening, depth, go-to, store, begin-loop, end-loop, begin-while, passes-after}
-use Rattle.theory.specs.Word.{Instruction, one, append, forward, cases}
+use Rattle.theory.specs.Word as W
+use Rattle.theory.specs.Word.{Instruction, forward, cases}
 use Rattle.theory.specs.Translation.{
   register,
   scratch,
@@ -34,7 +35,6 @@ use Rattle.theory.proofs.Cells.{at-within, put-same, put-other, put-cas
 use Rattle.theory.proofs.Joins.{ends, join}
 use Rattle.theory.proofs.Steps.{standing, step-append, step-forward, step-backward, step-empty, step-one}
 use Rattle.theory.proofs.Paths.{Fits, Run, clears, puts-back, touches, spreads, copies}
-use Rattle.theory.proofs.Partners.{Partners}
 use Rattle.theory.proofs.Sites.{place, Site, Line, Pair}
 use Rattle.theory.proofs.Matching.{Roomy, fits, Match, match-store, match-go-to, match-passes}
 
@@ -66,6 +66,14 @@ module _ (room : Room) (K : ℕ) (p : List Command) (w : List Instruction) where
     extra : (i x d : ℕ) → i < K → s .values i ≡ x → Fits room (counter K d) x
     extra i x d l e = fits room K R (counter K d) x (R .in-counter i x d l (ap (room (register i)) (sym e) ∙ M .fit i l))
 
+    -- Past a pair, nothing else changed
+    past-pair : (k : Kind) (i c : ℕ) → Pair K p w (s .line) c k i → Match room K p (go-to s (suc (closing p (s .line)))) n
+    past-pair k i c P =
+        let ok : (1 ≤ c) × (c ≤ length p) = at-within p c (closes k i) (P .partners .close-line) in
+        let same : depth p (suc (closing p (s .line))) ≡ depth p (s .line) =
+        ap (λ r. depth p (suc r)) (P .partners .closing-is) ∙ P .partners .after-depth in
+        match-go-to room K p s n M (suc (closing p (s .line))) (omega arith) (omega (arith, ok .1, P .partners .closing-is)) same
+
     on-clear : (i : ℕ) → i < K → s .line ≤ length p → Line K p w (s .line) (clear i) → Result s n (2 * s .values i + 2) (store s i 0)
     on-clear i l b L = (
       put n (register i) 0,
@@ -83,162 +91,181 @@ module _ (room : Room) (K : ℕ) (p : List Command) (w : List Instruction) where
       match-store room K p s n M i (suc (s .values i)) l b (L .line-depth) r,
     )
 
-    on-copy : (i j : ℕ) → i < K → j < K → s .line ≤ length p → Line K p w (s .line) (copy i j) → room (register i) (s .values j) ≡ true
-        → Result s n (command-charge p s (plain (copy i j))) (store s i (s .values j))
-    on-copy i j l l′ b L r = go (eqb i j) refl (L .line-code) (L .line-place)
-      where
-        stored : Match room K p (store s i (s .values j)) (put n (register i) (s .values j))
-        stored = match-store room K p s n M i (s .values j) l b (L .line-depth) r
+    module _ (i j : ℕ) (l : i < K) (l′ : j < K) (b : s .line ≤ length p) (L : Line K p w (s .line) (copy i j))
+        (r : room (register i) (s .values j) ≡ true) where
+      -- The code of the copy, by whether it is to itself
+      abbrev copy-code : Bool → List Instruction
+      copy-code t = cond t (touching (register j)) (copying (register j) (register i) (scratch K))
 
-        Code : Bool → List Instruction
-        Code t = cond t (touching (register j)) (copying (register j) (register i) (scratch K))
+      stored : Match room K p (store s i (s .values j)) (put n (register i) (s .values j))
+      stored = match-store room K p s n M i (s .values j) l b (L .line-depth) r
 
-        go : (t : Bool) → eqb i j ≡ t → Sits w here (Code t) → place K p (suc (s .line)) ≡ here + length (Code t)
-            → Result s n (cond t 2 (2 * s .values i + 7 * s .values j + 6)) (store s i (s .values j))
-        go true e h to =
-            let ij : i ≡ j = eqb-true i j e in
-            let same : put n (register i) (s .values j) ≡ n = put-id n (register i) (s .values j) (ap (λ m. n (register m)) ij ∙ M .held j l′) in (
-              n,
-              ends refl (ap (λ q. standing q n) (sym to)) (touches room w here (register j) h (s .values j) n (M .held j l′) (own j (s .values j) l′ refl)),
-              subst (Match room K p (store s i (s .values j))) same stored,
-            )
-        go false e h to =
-            let ij : i ≢ j = eqb-false i j e in (
-              put n (register i) (s .values j),
-              ends refl (ap (λ q. standing q (put n (register i) (s .values j))) (sym to))
-                  (copies room w n (register j) (register i) (scratch K) (omega arith) (omega arith) (omega arith) here h (s .values j) (s .values i)
-                  (M .held j l′) (M .held i l) (M .empty) (own j (s .values j) l′ refl) (fits room K R (register i) (s .values j) r)
-                  (spare j (s .values j) l′ refl)),
-              stored,
-            )
+      copy-to-itself : i ≡ j → Sits w here (copy-code true) → place K p (suc (s .line)) ≡ here + 3 → Result s n 2 (store s i (s .values j))
+      copy-to-itself e h to =
+          let x : ℕ = s .values j in
+          let same : put n (register i) x ≡ n = put-id n (register i) x (ap (λ m. n (register m)) e ∙ M .held j l′) in (
+            n,
+            ends refl (ap (λ q. standing q n) (sym to)) (touches room w here (register j) h x n (M .held j l′) (own j x l′ refl)),
+            subst (Match room K p (store s i x)) same stored,
+          )
 
-    -- The first nine instructions of a loop, which hand its value to its counter
-    counts : (i m : ℕ) → i < K → Sits w here (before-body K (depth p (s .line)) loop i m) → (x : ℕ) → s .values i ≡ x
-        → Run room w (standing here n) (7 * x + 4) (standing (here + 9) (put n (counter K (depth p (s .line))) x))
-    counts i m l h x e =
-        let d : ℕ = depth p (s .line) in
-        let none-left : s .passes d ≡ 0 = M .idle d (omega arith) in
-        let test : List Instruction = cases (counter K d) ∷ forward (m + 2) ∷ [] in
-        let share : List Instruction = sharing (register i) (counter K d) (scratch K) in
-        let return : List Instruction = returning (scratch K) (register i) in
-        let h₂ : Sits w (here + 5) (return ++ test) = sits-right w here share (return ++ test) h in
-        spreads room w n (register i) (counter K d) (scratch K) (omega arith) (omega arith) (omega arith) here
-        (sits-left w here share (return ++ test) h) (sits-left w (here + 5) return test h₂) x
-        (M .held i l ∙ e) (M .counted d ∙ ap pred none-left) (M .empty) (own i x l e) (extra i x d l e) (spare i x l e)
+      copy-to-other : i ≢ j → Sits w here (copy-code false) → place K p (suc (s .line)) ≡ here + 12
+          → Result s n (2 * s .values i + 7 * s .values j + 6) (store s i (s .values j))
+      copy-to-other e h to =
+          let x : ℕ = s .values j in
+          let fit : Fits room (register i) x = fits room K R (register i) x r in (
+            put n (register i) x,
+            ends refl (ap (λ q. standing q (put n (register i) x)) (sym to))
+                (copies room w n (register j) (register i) (scratch K) (omega arith) (omega arith) (omega arith) here h x (s .values i)
+                (M .held j l′) (M .held i l) (M .empty) (own j x l′ refl) fit (spare j x l′ refl)),
+            stored,
+          )
 
-    on-loop : (i : ℕ) → i < K → (c : ℕ) → Pair K p w (s .line) c loop i → (x : ℕ) → s .values i ≡ x
-        → Result s n (loop-charge x) (begin-loop p s x)
-    on-loop i l c P zero e =
-        let d : ℕ = depth p (s .line) in
-        let m : ℕ = P .size in
-        let both : Partners p (s .line) c loop i = P .partners in
-        let none-left : s .passes d ≡ 0 = M .idle d (omega arith) in
-        let same : put n (counter K d) 0 ≡ n = put-id n (counter K d) 0 (M .counted d ∙ ap pred none-left) in
-        let h : Sits w (here + 9) (cases (counter K d) ∷ forward (m + 2) ∷ []) = loop-test here d i m (P .before-code) in
-        let to : suc (here + 9) + (m + 2) ≡ place K p (suc c) = omega (arith, P .body-place, P .close-place, P .after-place) in
-        let line : suc c ≡ suc (closing p (s .line)) = ap suc (sym (both .closing-is)) in
-        let ok : (1 ≤ c) × (c ≤ length p) = at-within p c (closes loop i) (both .close-line) in (
-          n,
-          ends refl (ap₂ standing (to ∙ ap (place K p) line) same)
-              (join (counts i m l (P .before-code) 0 e)
-              (move (step-empty room w (here + 9) (put n (counter K d) 0) (counter K d) (suc (here + 9)) (h .0) (put-same n (counter K d) 0) refl)
-              (move (step-forward room w (suc (here + 9)) (put n (counter K d) 0) (m + 2) (suc (here + 9) + (m + 2)) (h .1 .0) refl) stay))),
-          subst (λ r. Match room K p (go-to s r) n) line
-              (match-go-to room K p s n M (suc c) (omega arith) (omega (arith, ok .1)) (both .after-depth)),
-        )
-    on-loop i l c P (suc x) e =
-        let d : ℕ = depth p (s .line) in
-        let m : ℕ = P .size in
-        let both : Partners p (s .line) c loop i = P .partners in
-        let h : Sits w (here + 9) (cases (counter K d) ∷ forward (m + 2) ∷ []) = loop-test here d i m (P .before-code) in
-        let to : here + 9 + 2 ≡ place K p (suc (s .line)) = omega (arith, P .body-place) in
-        let ok : (1 ≤ s .line) × (s .line ≤ length p) = at-within p (s .line) (opens loop i) (both .open-line) in (
-          put n (counter K d) x,
-          ends (omega arith) (ap (λ q. standing q (put n (counter K d) x)) to)
-              (join (counts i m l (P .before-code) (suc x) e)
-              (move (step-one room w (here + 9) (put n (counter K d) (suc x)) (counter K d) x (here + 9 + 2) (put n (counter K d) x) (h .0)
-              (put-same n (counter K d) (suc x)) refl (put-put n (counter K d) (suc x) x)) stay)),
-          match-passes room K p s n M (suc (s .line)) d (suc x) x (omega arith) (omega (arith, ok .1)) (omega arith)
-              (λ y g. let above : suc d ≤ y = omega (arith, both .body-depth) in
-              put-other (s .passes) d (suc x) y (omega arith) ∙ M .idle y (omega arith)),
-        )
+      on-copy : Result s n (command-charge p s (plain (copy i j))) (store s i (s .values j))
+      on-copy = go (eqb i j) refl (L .line-code) (L .line-place)
+        where
+          go : (t : Bool) → eqb i j ≡ t → Sits w here (copy-code t) → place K p (suc (s .line)) ≡ here + length (copy-code t)
+              → Result s n (cond t 2 (2 * s .values i + 7 * s .values j + 6)) (store s i (s .values j))
+          go true e h to = copy-to-itself (eqb-true i j e) h to
+          go false e h to = copy-to-other (eqb-false i j e) h to
 
-    on-endloop : (i o : ℕ) → Pair K p w o (s .line) loop i → (x : ℕ) → passes-after p s ≡ x → Result s n (endloop-charge x) (end-loop p s x)
-    on-endloop i o P zero e =
-        let q : ℕ = place K p o in
-        let d : ℕ = pred (depth p (s .line)) in
-        let m : ℕ = P .size in
-        let both : Partners p o (s .line) loop i = P .partners in
-        let same-depth : depth p o ≡ d = omega (arith, both .close-depth) in
-        let h : Sits w (q + 9) (cases (counter K d) ∷ forward (m + 2) ∷ []) =
-        subst (λ y. Sits w (q + 9) (cases (counter K y) ∷ forward (m + 2) ∷ [])) same-depth (loop-test q (depth p o) i m (P .before-code)) in
-        let last : n (counter K d) ≡ 0 = M .counted d ∙ e in
-        let ok : (1 ≤ s .line) × (s .line ≤ length p) = at-within p (s .line) (closes loop i) (both .close-line) in (
-          n,
-          move (step-backward room w here n (m + 2) (q + 9) (P .after-code) (omega (arith, P .close-place, P .body-place)))
-              (move (step-empty room w (q + 9) n (counter K d) (suc (q + 9)) (h .0) last refl)
-              (move (step-forward room w (suc (q + 9)) n (m + 2) (place K p (suc (s .line))) (h .1 .0)
-              (omega (arith, P .close-place, P .body-place, P .after-place))) stay)),
-          subst (Match room K p (end-loop p s 0)) (put-id n (counter K d) 0 last)
-              (match-passes room K p s n M (suc (s .line)) d 0 0 (omega arith) (omega (arith, ok .1)) (omega arith)
-              (λ y g. put-cases (s .passes) d 0 y 0 (λ a. refl) (λ a. M .idle y (omega (arith, both .close-depth, both .after-depth))))),
-        )
-    on-endloop i o P (suc x) e =
-        let q : ℕ = place K p o in
-        let d : ℕ = pred (depth p (s .line)) in
-        let m : ℕ = P .size in
-        let both : Partners p o (s .line) loop i = P .partners in
-        let same-depth : depth p o ≡ d = omega (arith, both .close-depth) in
-        let h : Sits w (q + 9) (cases (counter K d) ∷ forward (m + 2) ∷ []) =
-        subst (λ y. Sits w (q + 9) (cases (counter K y) ∷ forward (m + 2) ∷ [])) same-depth (loop-test q (depth p o) i m (P .before-code)) in
-        let more : n (counter K d) ≡ suc x = M .counted d ∙ e in
-        let ok : (1 ≤ o) × (o ≤ length p) = at-within p o (opens loop i) (both .open-line) in
-        let matched : Match room K p (record { line = suc o; values = s .values; passes = put (s .passes) d (suc x) }) (put n (counter K d) x) =
-        match-passes room K p s n M (suc o) d (suc x) x (omega arith) (omega (arith, ok .1)) (omega arith)
-        (λ y g. put-other (s .passes) d (suc x) y (omega (arith, both .body-depth)) ∙ M .idle y (omega (arith, both .close-depth, both .body-depth))) in (
-          put n (counter K d) x,
-          ends refl (ap (λ r. standing (place K p (suc r)) (put n (counter K d) x)) (sym (both .opening-is)))
-              (move (step-backward room w here n (m + 2) (q + 9) (P .after-code) (omega (arith, P .close-place, P .body-place)))
-              (move (step-one room w (q + 9) n (counter K d) x (place K p (suc o)) (put n (counter K d) x) (h .0) more (omega (arith, P .body-place)) refl) stay)),
-          subst (λ r. Match room K p (record { line = suc r; values = s .values; passes = put (s .passes) d (suc x) }) (put n (counter K d) x))
-              (sym (both .opening-is)) matched,
-        )
+    -- A loop's line
+    module _ (i : ℕ) (l : i < K) (c : ℕ) (P : Pair K p w (s .line) c loop i) where
+      abbrev loop-depth : ℕ
+      loop-depth = depth p (s .line)
+
+      abbrev loop-counter : ℕ
+      loop-counter = counter K (depth p (s .line))
+
+      test-code : Sits w (here + 9) (cases loop-counter ∷ forward (P .size + 2) ∷ [])
+      test-code = loop-test here loop-depth i (P .size) (P .before-code)
+
+      not-counting : n loop-counter ≡ 0
+      not-counting = M .counted loop-depth ∙ ap pred (M .idle loop-depth (omega arith))
+
+      -- The first nine instructions hand the loop's value to its counter
+      counts : (x : ℕ) → s .values i ≡ x → Run room w (standing here n) (7 * x + 4) (standing (here + 9) (put n loop-counter x))
+      counts x e =
+          let share : List Instruction = sharing (register i) loop-counter (scratch K) in
+          let return : List Instruction = returning (scratch K) (register i) in
+          let test : List Instruction = cases loop-counter ∷ forward (P .size + 2) ∷ [] in
+          let h : Sits w (here + 5) (return ++ test) = sits-right w here share (return ++ test) (P .before-code) in
+          spreads room w n (register i) loop-counter (scratch K) (omega arith) (omega arith) (omega arith) here
+          (sits-left w here share (return ++ test) (P .before-code)) (sits-left w (here + 5) return test h) x
+          (M .held i l ∙ e) not-counting (M .empty) (own i x l e) (extra i x loop-depth l e) (spare i x l e)
+
+      on-loop : (x : ℕ) → s .values i ≡ x → Result s n (loop-charge x) (begin-loop p s x)
+      on-loop zero e =
+          let past : ℕ = suc (closing p (s .line)) in
+          let cleared : ℕ → ℕ = put n loop-counter 0 in
+          let to : place K p past ≡ suc (here + 9) + (P .size + 2) =
+          ap (λ r. place K p (suc r)) (P .partners .closing-is) ∙ omega (arith, P .body-place, P .close-place, P .after-place) in (
+            n,
+            ends refl (ap (standing (place K p past)) (put-id n loop-counter 0 not-counting))
+                (join (counts 0 e)
+                (move (step-empty room w (here + 9) cleared loop-counter (suc (here + 9)) (test-code .0) (put-same n loop-counter 0) refl)
+                (move (step-forward room w (suc (here + 9)) cleared (P .size + 2) (place K p past) (test-code .1 .0) to) stay))),
+            past-pair loop i c P,
+          )
+      on-loop (suc x) e =
+          let ok : (1 ≤ s .line) × (s .line ≤ length p) = at-within p (s .line) (opens loop i) (P .partners .open-line) in (
+            put n loop-counter x,
+            ends (omega arith) refl
+                (join (counts (suc x) e)
+                (move (step-one room w (here + 9) (put n loop-counter (suc x)) loop-counter x (place K p (suc (s .line)))
+                (put n loop-counter x) (test-code .0) (put-same n loop-counter (suc x)) (omega (arith, P .body-place))
+                (put-put n loop-counter (suc x) x)) stay)),
+            match-passes room K p s n M (suc (s .line)) loop-depth (suc x) x (omega arith) (omega (arith, ok .1)) refl
+                (λ y g. let inside : suc loop-depth ≤ y = omega (arith, P .partners .body-depth) in
+                put-other (s .passes) loop-depth (suc x) y (omega arith) ∙ M .idle y (omega arith)),
+          )
+
+    -- A loop's `endloop` line
+    module _ (i o : ℕ) (P : Pair K p w o (s .line) loop i) where
+      abbrev own-depth : ℕ
+      own-depth = pred (depth p (s .line))
+
+      abbrev own-counter : ℕ
+      own-counter = counter K (pred (depth p (s .line)))
+
+      abbrev test-place : ℕ
+      test-place = place K p o + 9
+
+      own-depth-is : own-depth ≡ depth p o
+      own-depth-is = ap pred (P .partners .close-depth)
+
+      own-test : Sits w test-place (cases own-counter ∷ forward (P .size + 2) ∷ [])
+      own-test =
+          subst (λ d. Sits w test-place (cases (counter K d) ∷ forward (P .size + 2) ∷ [])) (sym own-depth-is)
+          (loop-test (place K p o) (depth p o) i (P .size) (P .before-code))
+
+      back-to-test : W.step room w (standing here n) ≡ some (standing test-place n)
+      back-to-test = step-backward room w here n (P .size + 2) test-place (P .after-code) (omega (arith, P .close-place, P .body-place))
+
+      on-endloop : (x : ℕ) → passes-after p s ≡ x → Result s n (endloop-charge x) (end-loop p s x)
+      on-endloop zero e =
+          let last : n own-counter ≡ 0 = M .counted own-depth ∙ e in
+          let to : place K p (suc (s .line)) ≡ suc test-place + (P .size + 2) =
+          omega (arith, P .close-place, P .body-place, P .after-place) in
+          let ok : (1 ≤ s .line) × (s .line ≤ length p) = at-within p (s .line) (closes loop i) (P .partners .close-line) in (
+            n,
+            move back-to-test
+                (move (step-empty room w test-place n own-counter (suc test-place) (own-test .0) last refl)
+                (move (step-forward room w (suc test-place) n (P .size + 2) (place K p (suc (s .line))) (own-test .1 .0) to) stay)),
+            subst (Match room K p (end-loop p s 0)) (put-id n own-counter 0 last)
+                (match-passes room K p s n M (suc (s .line)) own-depth 0 0 (omega arith) (omega (arith, ok .1)) refl
+                (λ y g. put-cases (s .passes) own-depth 0 y 0 (λ a. refl)
+                (λ a. M .idle y (omega (arith, own-depth-is, P .partners .close-depth, P .partners .after-depth))))),
+          )
+      on-endloop (suc x) e =
+          let first : ℕ = suc (opening p (s .line)) in
+          let to : place K p first ≡ test-place + 2 =
+          ap (λ r. place K p (suc r)) (P .partners .opening-is) ∙ omega (arith, P .body-place) in
+          let inside : depth p first ≡ suc (depth p o) = ap (λ r. depth p (suc r)) (P .partners .opening-is) ∙ P .partners .body-depth in
+          let ok : (1 ≤ o) × (o ≤ length p) = at-within p o (opens loop i) (P .partners .open-line) in (
+            put n own-counter x,
+            move back-to-test
+                (move (step-one room w test-place n own-counter x (place K p first) (put n own-counter x) (own-test .0)
+                (M .counted own-depth ∙ e) to refl) stay),
+            match-passes room K p s n M first own-depth (suc x) x (omega arith) (omega (arith, ok .1, P .partners .opening-is)) refl
+                (λ y g. put-other (s .passes) own-depth (suc x) y (omega (arith, own-depth-is))
+                ∙ M .idle y (omega (arith, P .partners .close-depth))),
+          )
 
     on-while : (i : ℕ) → i < K → (c : ℕ) → Pair K p w (s .line) c while i → (x : ℕ) → s .values i ≡ x → Result s n 2 (begin-while p s x)
     on-while i l c P zero e =
-        let both : Partners p (s .line) c while i = P .partners in
-        let line : suc c ≡ suc (closing p (s .line)) = ap suc (sym (both .closing-is)) in
-        let ok : (1 ≤ c) × (c ≤ length p) = at-within p c (closes while i) (both .close-line) in (
+        let past : ℕ = suc (closing p (s .line)) in
+        let to : place K p past ≡ suc here + (P .size + 3) =
+        ap (λ r. place K p (suc r)) (P .partners .closing-is) ∙ omega (arith, P .body-place, P .close-place, P .after-place) in (
           n,
-          ends refl (ap (λ r. standing (place K p r) n) line)
-              (move (step-empty room w here n (register i) (suc here) (P .before-code .0) (M .held i l ∙ e) refl)
-              (move (step-forward room w (suc here) n (P .size + 3) (place K p (suc c)) (P .before-code .1 .0)
-              (omega (arith, P .body-place, P .close-place, P .after-place))) stay)),
-          subst (λ r. Match room K p (go-to s r) n) line
-              (match-go-to room K p s n M (suc c) (omega arith) (omega (arith, ok .1)) (both .after-depth)),
+          move (step-empty room w here n (register i) (suc here) (P .before-code .0) (M .held i l ∙ e) refl)
+              (move (step-forward room w (suc here) n (P .size + 3) (place K p past) (P .before-code .1 .0) to) stay),
+          past-pair while i c P,
         )
     on-while i l c P (suc x) e =
-        let both : Partners p (s .line) c while i = P .partners in
-        let ok : (1 ≤ s .line) × (s .line ≤ length p) = at-within p (s .line) (opens while i) (both .open-line) in (
+        let ok : (1 ≤ s .line) × (s .line ≤ length p) = at-within p (s .line) (opens while i) (P .partners .open-line) in (
           n,
-          ends refl (ap (λ q. standing q n) (sym (P .body-place))) (puts-back room w here (register i) (P .before-code .0) (P .before-code .1 .1 .0) x n (M .held i l ∙ e) (own i (suc x) l e)),
-          match-go-to room K p s n M (suc (s .line)) (omega arith) (omega (arith, ok .1)) (both .body-depth),
+          ends refl (ap (λ q. standing q n) (sym (P .body-place)))
+              (puts-back room w here (register i) (P .before-code .0) (P .before-code .1 .1 .0) x n (M .held i l ∙ e) (own i (suc x) l e)),
+          match-go-to room K p s n M (suc (s .line)) (omega arith) (omega (arith, ok .1)) (P .partners .body-depth),
         )
 
     on-endwhile : (i o : ℕ) → Pair K p w o (s .line) while i → Result s n 1 (go-to s (opening p (s .line)))
     on-endwhile i o P =
-        let both : Partners p o (s .line) while i = P .partners in
-        let ok : (1 ≤ o) × (o ≤ length p) = at-within p o (opens while i) (both .open-line) in
-        let line : o ≡ opening p (s .line) = sym (both .opening-is) in (
+        let first : ℕ = opening p (s .line) in
+        let to : here ≡ place K p first + (P .size + 3) =
+        omega (arith, P .close-place, P .body-place, ap (place K p) (P .partners .opening-is)) in
+        let ok : (1 ≤ o) × (o ≤ length p) = at-within p o (opens while i) (P .partners .open-line) in
+        let same : depth p first ≡ depth p (s .line) = ap (depth p) (P .partners .opening-is) ∙ sym (P .partners .close-depth) in (
           n,
-          ends refl (ap (λ r. standing (place K p r) n) line)
-              (move (step-backward room w here n (P .size + 3) (place K p o) (P .after-code) (omega (arith, P .close-place, P .body-place))) stay),
-          subst (λ r. Match room K p (go-to s r) n) line
-              (match-go-to room K p s n M o (ok .0) (omega (arith, ok .1)) (sym (both .close-depth))),
+          move (step-backward room w here n (P .size + 3) (place K p first) (P .after-code) to) stay,
+          match-go-to room K p s n M first (omega (arith, ok .0, P .partners .opening-is))
+              (omega (arith, ok .1, P .partners .opening-is)) same,
         )
 
     module _ (known : (l : ℕ) (c : Command) → at p l ≡ some c → Site K p w l c × (above (indices c) ≤ K)) where
-      on-command : (s′ : State) (c : Command) → at p (s .line) ≡ some c → S.perform room p s c ≡ some s′ → Result s n (command-charge p s c) s′
+      on-command : (s′ : State) (c : Command) → at p (s .line) ≡ some c → S.perform room p s c ≡ some s′
+          → Result s n (command-charge p s c) s′
       on-command s′ (plain (clear i)) e x =
           let k : _ = known (s .line) (plain (clear i)) e in
           subst (Result s n (2 * s .values i + 2)) (Option·some-injective (store s i 0) s′ x)
@@ -259,7 +286,8 @@ module _ (room : Room) (K : ℕ) (p : List Command) (w : List Instruction) where
           after : State
           after = store s i (s .values j)
 
-          go : (r : Bool) → room (register i) (s .values j) ≡ r → given r after ≡ some s′ → Result s n (command-charge p s (plain (copy i j))) s′
+          go : (r : Bool) → room (register i) (s .values j) ≡ r → given r after ≡ some s′
+              → Result s n (command-charge p s (plain (copy i j))) s′
           go true h y =
               let k : _ = known (s .line) (plain (copy i j)) e in
               subst (Result s n (command-charge p s (plain (copy i j)))) (Option·some-injective after s′ y)

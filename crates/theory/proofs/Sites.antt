@@ -142,7 +142,8 @@ module _ (K : ℕ) (p : List Command) (w : List Instruction) where
     to-close : place K p c ≡ place K p (suc n) + length inner
     unfolding inner
     to-close =
-        place-along K p (lines body) (suc n) (body-lines p n k i body b (h .0)) ∙ ap (_+_ (place K p (suc n))) (sized K (deeper k (depth p n)) body)
+        place-along K p (lines body) (suc n) (body-lines p n k i body b (h .0))
+        ∙ ap (_+_ (place K p (suc n))) (sized K (deeper k (depth p n)) body)
 
     past-close : place K p (suc c) ≡ suc (place K p c)
     unfolding size

@@ -112,10 +112,11 @@ module _ (room : Room) (b : Block) where
         let L : Line K p w (s .line) (increment i) = site b (s .line) (plain (increment i)) e′ in
         let below : _ = named-below p (s .line) (plain (increment i)) e′ in
         let value : n (register i) ≡ s .values i = M .held i (omega arith) in
-        let goes : W.step unlimited w (standing q n) ≡ some (standing (suc q) (put n (register i) (suc (s .values i)))) =
-        step-append unlimited w q n (register i) (s .values i) (suc q) (put n (register i) (suc (s .values i))) (L .line-code .0) value refl refl refl in (
+        let more : ℕ → ℕ = put n (register i) (suc (s .values i)) in
+        let goes : W.step unlimited w (standing q n) ≡ some (standing (suc q) more) =
+        step-append unlimited w q n (register i) (s .values i) (suc q) more (L .line-code .0) value refl refl refl in (
           step-full room w q n (register i) (s .values i) (L .line-code .0) value h,
-          inr (rw (ne-eqb (s .line) (suc (length p)) λ z. omega arith), word-live unlimited w (standing q n) _ goes),
+          inr (rw (ne-eqb (s .line) (suc (length p)) λ z. omega arith), word-live unlimited w (standing q n) (standing (suc q) more) goes),
         )
 
     pub stop-both : (s : State) (n : ℕ → ℕ) → Match room K p s n → S.step room p s ≡ none → Stopped s n

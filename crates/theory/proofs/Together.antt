@@ -1,12 +1,10 @@
 -- From fresh states of equal values, within one capacity, and where neither run is spent, the source is full exactly when its word is.
 use mathlib.Core.Path.{_≡_, sym, ap, _∙_, subst}
-use mathlib.Core.Logic.{_≢_, _⊎_, ⊎-elim, _↔_}
-use mathlib.Core.Bool.{true}
-use mathlib.Core.Option.{none, some, Option·none-ne-some}
+use mathlib.Core.Logic.{_≢_, ⊎-elim, _↔_}
+use mathlib.Core.Option.{none, Option·none-ne-some}
 use mathlib.Core.List.{List}
 use Prim.Native.Nat.{ℕ, suc, _+_, _≤_, _<_}
 use native.Mathlib.Omega.{arith}
-use lib.Dec.{leb}
 use borrow.Author.Tests.{le-leb, leb-true}
 use Rattle.theory.specs.Runs.{Room, Machine, Outcome, run, within}
 use Rattle.theory.specs.ProgramText.{Command, variables, Block, lines, block-of}
@@ -101,4 +99,5 @@ module _ (capacity : ℕ) (v : ℕ → ℕ) (budget budget′ : ℕ) where
 pub full-together : FullTogether
 unfolding word-of
 full-together p a capacity v fit budget budget′ paid paid′ =
-    subst (λ l. Together capacity v budget budget′ l (word (block-of p))) (well-nested p a) (together capacity v budget budget′ (block-of p)) fit paid paid′
+    subst (λ l. Together capacity v budget budget′ l (word (block-of p))) (well-nested p a)
+    (together capacity v budget budget′ (block-of p)) fit paid paid′

@@ -20,14 +20,13 @@ use Rattle.theory.specs.Word as W
 use Rattle.theory.specs.Word.{Instruction}
 use Rattle.theory.specs.Translation.{register, scratch, counter, word, loop-charge, endloop-charge, command-charge, charge-fetched, charge}
 use Rattle.theory.specs.Machines.{fresh-source, fresh-word, holding, ones}
-use Rattle.theory.specs.declared.End.the-variants.{Halted}
 use Rattle.theory.proofs.Joins.{Onward, join, inversion, compare}
 use Rattle.theory.proofs.Steps.{standing, step-forward}
 use Rattle.theory.proofs.Partners.{named-below, depth-end}
 use Rattle.theory.proofs.Sites.{place, site, place-start}
 use Rattle.theory.proofs.Matching.{Roomy, Match}
 use Rattle.theory.proofs.Simulate.{Result, simulate}
-use Rattle.theory.proofs.Stops.{Even, here, stop-both, halted-line}
+use Rattle.theory.proofs.Stops.{Even, here, stop-both}
 
 -- The counts at the start
 
@@ -171,8 +170,11 @@ module _ (room : Room) (b : Block) (R : Roomy room (variables (lines b))) where
       fit = fit;
     }
 
+    abbrev second : W.State
+    second = at-line (fresh-source v) (counts K v)
+
     -- F1
-    first : W.step room w (fresh-word K v) ≡ some (at-line (fresh-source v) (counts K v))
+    first : W.step room w (fresh-word K v) ≡ some second
     unfolding word
     first = ap (W.step room w) (start-is K v) ∙ step-forward room (word b) 1 (counts K v) 1 (place K p 1) refl (place-start K p)
 
@@ -182,9 +184,9 @@ module _ (room : Room) (b : Block) (R : Roomy room (variables (lines b))) where
     pub reached : Even room (variables (lines b)) → (m : ℕ) (t : W.State) → WordRunIn (fresh-word (variables (lines b)) v) m t
         → Reached (fresh-source v) t
     reached E m t g = ⊎-elim
-        (λ z. inl (at-line (fresh-source v) (counts K v), ap (W.step room w) (sym (z .1)) ∙ first))
+        (λ z. inl (second, ap (W.step room w) (sym (z .1)) ∙ first))
         (λ z. reach E (suc (z .1)) (z .1) (omega arith) (fresh-source v) (counts K v) t start
-        (subst (λ u. WordRunIn u (z .1) t) (Option·some-injective (z .0) (at-line (fresh-source v) (counts K v)) (sym (z .2) ∙ first)) (z .3)))
+        (subst (λ u. WordRunIn u (z .1) t) (Option·some-injective (z .0) second (sym (z .2) ∙ first)) (z .3)))
         (inversion g)
 
   -- Where the source has halted, nothing is in the registers beyond its variables
