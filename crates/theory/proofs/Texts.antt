@@ -1,7 +1,7 @@
 -- Program texts: reading undoes writing, and writing undoes reading.
 use mathlib.Core.Path.{_≡_, refl, sym, ap, ap₂, _∙_, subst}
 use mathlib.Core.Logic.{_↔_}
-use mathlib.Core.Bool.{Bool, true, false, not, _||_, or-true}
+use mathlib.Core.Bool.{Bool, true, false, not, _&&_, _||_, or-true}
 use mathlib.Core.Option.{Option, none, some, Option·map, Option·some-injective, Option·none-ne-some}
 use mathlib.Core.List.{List, [], _∷_, _++_, map, append-nil, head-eq-of-cons-eq, tail-eq-of-cons-eq}
 use Prim.Native.Nat.{ℕ, _*_, _≤_, _<_}
@@ -11,7 +11,7 @@ use lib.Dec.{eqb, eqb·suc-zero}
 use borrow.Author.Tests.{eqb-true, eq-eqb, ne-eqb, le-leb, not-true}
 use Rattle.theory.specs.Limits
 use Rattle.theory.specs.Basics.{given, or-else, and-then, present, all}
-use Rattle.theory.specs.Text.{Bytes, bytes, LF, after, same, is-digit, name, decimal, name-of}
+use Rattle.theory.specs.Text.{Bytes, bytes, LF, Found, after, same, is-digit, name, decimal, name-of}
 use Rattle.theory.specs.Text.{onto-first, split-lines, ends-in-LF}
 use Rattle.theory.specs.ProgramText.{clear, increment, copy, loop, while, Command, plain, opens, closes}
 use Rattle.theory.specs.ProgramText.{spelling, text-of, around, assigns, command}
@@ -119,6 +119,69 @@ command-of-spelling (closes loop i) = rw (name-alone i)
 command-of-spelling (opens while i) = rw (name-name-of i (bytes " != 0") refl)
 command-of-spelling (closes while i) = rw (name-name-of i (bytes " != 0") refl)
 
+-- Reading from the front
+
+-- The command of a line that begins with Xi, by the bytes behind that name; of one that goes on with an arrow, by the name behind that
+abbrev pub copied : ℕ → Found ℕ → Option Command
+copied i g =
+    or-else (given (same (bytes " + 1") (g .rest) && eqb i (g .value)) (plain (increment i)))
+    (given (same [] (g .rest)) (plain (copy i (g .value))))
+
+abbrev pub assigned : ℕ → Bytes → Option Command
+assigned i r = or-else (given (same (bytes " <- 0") r) (plain (clear i))) (and-then (after arrow r) λ u. and-then (name u) (copied i))
+
+-- The same as `command` asks for it, one way to read a line after the other: x is what follows the arrow
+abbrev second-name : Bytes → ℕ → Option (Found ℕ) → Option (ℕ × ℕ)
+second-name back i n = and-then n λ g. given (same back (g .rest)) (i, g .value)
+
+abbrev two-names : Bytes → ℕ → Option Bytes → Option (ℕ × ℕ)
+two-names back i x = and-then x λ u. second-name back i (name u)
+
+abbrev in-turn : Option (ℕ × ℕ) → Option (ℕ × ℕ) → Option Command
+in-turn plus alone =
+    or-else (and-then plus λ ij. given (eqb (ij .0) (ij .1)) (plain (increment (ij .0))))
+    (or-else (Option·map (λ ij. plain (copy (ij .0) (ij .1))) alone) none)
+
+copied-in-turn : (i j : ℕ) (plus alone twice : Bool) → eqb i j ≡ twice
+    → in-turn (given plus (i, j)) (given alone (i, j))
+    ≡ or-else (given (plus && twice) (plain (increment i))) (given alone (plain (copy i j)))
+copied-in-turn i j true true true e = rw e
+copied-in-turn i j true true false e = rw e
+copied-in-turn i j true false true e = rw e
+copied-in-turn i j true false false e = rw e
+copied-in-turn i j false true twice e = refl
+copied-in-turn i j false false twice e = refl
+
+assigned-in-turn : (i : ℕ) (x : Option Bytes)
+    → in-turn (two-names (bytes " + 1") i x) (two-names [] i x) ≡ and-then x λ u. and-then (name u) (copied i)
+assigned-in-turn i none = refl
+assigned-in-turn i (some u) = named (name u)
+  where
+    named : (n : Option (Found ℕ)) → in-turn (second-name (bytes " + 1") i n) (second-name [] i n) ≡ and-then n (copied i)
+    named none = refl
+    named (some g) = copied-in-turn i (g .value) (same (bytes " + 1") (g .rest)) (same [] (g .rest)) (eqb i (g .value)) refl
+
+cleared-first : (i : ℕ) (t : Bool) (y : Option Command)
+    → or-else (Option·map (λ i. plain (clear i)) (given t i)) y ≡ or-else (given t (plain (clear i))) y
+cleared-first i true y = refl
+cleared-first i false y = refl
+
+pub command-named : (u : Bytes) (f : Found ℕ) → name (88 ∷ u) ≡ some f → command (88 ∷ u) ≡ assigned (f .value) (f .rest)
+unfolding command around assigns after
+command-named u f h =
+    let clears : Bool = same (bytes " <- 0") (f .rest) in
+    let turns : _ = assigned-in-turn (f .value) (after arrow (f .rest)) in
+    rw h (cleared-first (f .value) clears _ ∙ ap (or-else (given clears (plain (clear (f .value))))) turns)
+
+-- A line that begins with no name is read by the word that it begins with
+pub command-unnamed : (t : Bytes) → name t ≡ none → command t
+    ≡ or-else (Option·map (opens loop) (around (bytes "loop ") [] t))
+    (or-else (Option·map (closes loop) (around (bytes "endloop ") [] t))
+    (or-else (Option·map (opens while) (around (bytes "while ") (bytes " != 0") t))
+    (Option·map (closes while) (around (bytes "endwhile ") (bytes " != 0") t))))
+unfolding command around assigns after
+command-unnamed t h = rw h
+
 -- A line that is read as a command spells it: of each way to read one, and so of the first that fits
 abbrev Spells : Bytes → Option Command → Type 0
 Spells t x = (c : Command) → x ≡ some c → spelling c ≡ t
@@ -153,7 +216,7 @@ unfolding command spelling
 spelling-of-command t =
     spells-or t _ _ (spells-around t [] (bytes " <- 0") (λ i. plain (clear i)) (λ i. refl))
     (spells-or t _ _ (spells-increment t)
-    (spells-or t _ _ (spells-mapped t _ (assigns [] t) copied)
+    (spells-or t _ _ (spells-mapped t _ (assigns [] t) of-copy)
     (spells-or t _ _ (spells-around t (bytes "loop ") [] (opens loop) (λ i. alone (bytes "loop ") i))
     (spells-or t _ _ (spells-around t (bytes "endloop ") [] (closes loop) (λ i. alone (bytes "endloop ") i))
     (spells-or t _ _ (spells-around t (bytes "while ") (bytes " != 0") (opens while) (λ i. refl))
@@ -162,8 +225,8 @@ spelling-of-command t =
     alone : (front : Bytes) (i : ℕ) → front ++ name-of i ≡ front ++ (name-of i ++ [])
     alone front i = ap {B = Bytes} (λ r. front ++ r) (sym (append-nil (name-of i)))
 
-    copied : (a : ℕ × ℕ) → assigns [] t ≡ some a → spelling (plain (copy (a .0) (a .1))) ≡ t
-    copied a h = ap {B = Bytes} (λ r. name-of (a .0) ++ r) (alone arrow (a .1)) ∙ assigns-some [] t (a .0) (a .1) h
+    of-copy : (a : ℕ × ℕ) → assigns [] t ≡ some a → spelling (plain (copy (a .0) (a .1))) ≡ t
+    of-copy a h = ap {B = Bytes} (λ r. name-of (a .0) ++ r) (alone arrow (a .1)) ∙ assigns-some [] t (a .0) (a .1) h
 
 -- Lines
 
