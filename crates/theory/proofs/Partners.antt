@@ -8,7 +8,8 @@ use native.Mathlib.Omega.{arith}
 use lib.ListN.{length, getElem?, take, drop, length-append, length-take}
 use lib.Seq.{take-length}
 use Rattle.theory.specs.Basics.{at}
-use Rattle.theory.specs.ProgramText.{Kind, Plain, Command, plain, opens, closes, indices, above, variables, Block, end, line, pair, lines}
+use Rattle.theory.specs.ProgramText.{Kind, Plain, Command, plain, opens, closes, indices, above, variables}
+use Rattle.theory.specs.ProgramText.{Block, end, line, pair, lines}
 use Rattle.theory.specs.Source.{ahead, closing, Opening, closed, open-after, open-at, innermost, opening, deeper, loops, depth}
 use Rattle.theory.proofs.Cells.{at-within, Sits, sits-left, sits-right, sits-self}
 

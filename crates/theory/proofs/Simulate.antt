@@ -16,21 +16,8 @@ use Rattle.theory.specs.Source as S
 use Rattle.theory.specs.Source.{State, closing, opening, depth, go-to, store, begin-loop, end-loop, begin-while, passes-after}
 use Rattle.theory.specs.Word as W
 use Rattle.theory.specs.Word.{Instruction, forward, cases}
-use Rattle.theory.specs.Translation.{
-  register,
-  scratch,
-  counter,
-  sharing,
-  returning,
-  touching,
-  copying,
-  before-body,
-  loop-charge,
-  endloop-charge,
-  command-charge,
-  charge-fetched,
-  charge,
-}
+use Rattle.theory.specs.Translation.{register, scratch, counter, sharing, returning, touching, copying, before-body}
+use Rattle.theory.specs.Translation.{loop-charge, endloop-charge, command-charge, charge-fetched, charge}
 use Rattle.theory.proofs.Cells.{at-within, put-same, put-other, put-cases, put-put, put-id, Sits, sits-left, sits-right}
 use Rattle.theory.proofs.Joins.{ends, join}
 use Rattle.theory.proofs.Steps.{standing, step-append, step-forward, step-backward, step-empty, step-one}

@@ -8,12 +8,14 @@ use native.Mathlib.Omega.{arith}
 use lib.ListN.{length, take, length-append}
 use lib.Seq.{take-length}
 use Rattle.theory.specs.Basics.{at}
-use Rattle.theory.specs.ProgramText.{Kind, loop, while, Plain, Command, plain, opens, closes, variables, Block, end, line, pair, lines}
+use Rattle.theory.specs.ProgramText.{Kind, loop, while, Plain, Command, plain, opens, closes, variables}
+use Rattle.theory.specs.ProgramText.{Block, end, line, pair, lines}
 use Rattle.theory.specs.Source.{deeper, depth}
 use Rattle.theory.specs.Word.{Instruction, forward}
 use Rattle.theory.specs.Translation.{plain-code, before-body, after-body, code, word}
 use Rattle.theory.proofs.Cells.{Sits, sits-left, sits-right, sits-later, sits-self}
-use Rattle.theory.proofs.Partners.{Inherited, Spot, spot, take-next, slide, Partners, plain-depth, partners-here, body-lines, close-lines, depth-start}
+use Rattle.theory.proofs.Partners.{Inherited, Spot, spot, take-next, slide}
+use Rattle.theory.proofs.Partners.{Partners, plain-depth, partners-here, body-lines, close-lines, depth-start}
 
 -- The instructions before a pair's body
 abbrev pub before-size : Kind → ℕ

@@ -11,7 +11,8 @@ use lib.Dec.{eqb}
 use borrow.Author.Tests.{le-ltb}
 use Rattle.theory.specs.Basics.{at, put, given}
 use Rattle.theory.specs.Runs.{Room}
-use Rattle.theory.specs.Word.{Symbol, one, Instruction, append, forward, backward, cases, State, branch, appended, perform-fetched, step}
+use Rattle.theory.specs.Word.{Symbol, one, Instruction, append, forward, backward, cases}
+use Rattle.theory.specs.Word.{State, branch, appended, perform-fetched, step}
 use Rattle.theory.specs.Machines.{ones}
 
 -- At place q, register j with n j ones

@@ -17,8 +17,8 @@ use Rattle.theory.specs.ProgramText.{loop, while, clear, increment, copy
 use Rattle.theory.specs.Source as S
 use Rattle.theory.specs.Source.{State, depth, passes-after}
 use Rattle.theory.specs.Word as W
-use Rattle.theory.specs.Word.{Instruction}
-use Rattle.theory.specs.Translation.{register, scratch, counter, word, loop-charge, endloop-charge, command-charge, charge-fetched, charge}
+use Rattle.theory.specs.Translation.{register, scratch, counter, word}
+use Rattle.theory.specs.Translation.{loop-charge, endloop-charge, command-charge, charge-fetched, charge}
 use Rattle.theory.specs.Machines.{fresh-source, fresh-word, holding, ones}
 use Rattle.theory.proofs.Joins.{Onward, join, inversion, compare}
 use Rattle.theory.proofs.Steps.{standing, step-forward}
@@ -93,9 +93,6 @@ module _ (room : Room) (b : Block) (R : Roomy room (variables (lines b))) where
   abbrev K : ℕ
   K = variables (lines b)
 
-  abbrev w : List Instruction
-  w = word b
-
   abbrev at-line : State → (ℕ → ℕ) → W.State
   at-line = here room b
 
@@ -109,13 +106,13 @@ module _ (room : Room) (b : Block) (R : Roomy room (variables (lines b))) where
   abbrev pub Followed : W.State → ℕ → State → Type 0
   Followed t c s = (n : ℕ → ℕ) × WordRunIn t c (here room b s n) × Match room (variables (lines b)) (lines b) s n
 
-  one-step : (s s′ : State) (n : ℕ → ℕ) → Match room K p s n → S.step room p s ≡ some s′ → Result room K p w s n (charge p s) s′
-  one-step s s′ n M e = simulate room K p w R s n M (λ l c h. (site b l c h, named-below p l c h)) s′ e
+  one-step : (s s′ : State) (n : ℕ → ℕ) → Match room K p s n → S.step room p s ≡ some s′ → Result room K p (word b) s n (charge p s) s′
+  one-step s s′ n M e = simulate room K p (word b) R s n M (λ l c h. (site b l c h, named-below p l c h)) s′ e
 
   follow : {s s′ : State} {c : ℕ} → SourceRunIn s c s′ → (n : ℕ → ℕ) → Match room K p s n → Followed (at-line s n) c s′
   follow stay n M = (n, stay, M)
   follow (move {s} {s′} e g) n M =
-      let r : Result room K p w s n (charge p s) s′ = one-step s s′ n M e in
+      let r : Result room K p (word b) s n (charge p s) s′ = one-step s s′ n M e in
       let f : _ = follow g (r .0) (r .2) in
       (f .0, join (r .1) (f .1), f .2)
 
@@ -132,7 +129,7 @@ module _ (room : Room) (b : Block) (R : Roomy room (variables (lines b))) where
     reach zero m h s n t M g = absurd (omega arith)
     reach (suc f) m h s n t M g = go (S.step room p s) refl (λ m′ l s′ n′ M′ g′. reach f m′ l s′ n′ t M′ g′)
       where
-        last : S.step room p s ≡ none → ((m ≡ 0) × (at-line s n ≡ t)) ⊎ Onward (W.step room w) each (at-line s n) m t → Reached s t
+        last : S.step room p s ≡ none → ((m ≡ 0) × (at-line s n ≡ t)) ⊎ Onward (W.step room (word b)) each (at-line s n) m t → Reached s t
         last e (inl z) = inr (0, s, n, stay, e, M, sym (z .1))
         last e (inr z) = absurd (Option·none-ne-some (z .0) (sym (stop-both room b E s n M e .0) ∙ z .2))
 
@@ -145,7 +142,7 @@ module _ (room : Room) (b : Block) (R : Roomy room (variables (lines b))) where
             → Reached s t
         go none e rec = last e (inversion g)
         go (some s′) e rec =
-            let r : Result room K p w s n (charge p s) s′ = one-step s s′ n M e in
+            let r : Result room K p (word b) s n (charge p s) s′ = one-step s s′ n M e in
             let paid : 0 < charge p s = step-pays room p s s′ e in
             let there : W.State = at-line s′ (r .0) in
             ⊎-elim
@@ -174,9 +171,9 @@ module _ (room : Room) (b : Block) (R : Roomy room (variables (lines b))) where
     second = at-line (fresh-source v) (counts K v)
 
     -- F1
-    first : W.step room w (fresh-word K v) ≡ some second
+    first : W.step room (word b) (fresh-word K v) ≡ some second
     unfolding word
-    first = ap (W.step room w) (start-is K v) ∙ step-forward room (word b) 1 (counts K v) 1 (place K p 1) refl (place-start K p)
+    first = ap (W.step room (word b)) (start-is K v) ∙ step-forward room (word b) 1 (counts K v) 1 (place K p 1) refl (place-start K p)
 
     pub followed : (c : ℕ) (s : State) → SourceRunIn (fresh-source v) c s → Followed (fresh-word (variables (lines b)) v) (1 + c) s
     followed c s g = let f : _ = follow g (counts K v) start in (f .0, move first (f .1), f .2)
@@ -184,7 +181,7 @@ module _ (room : Room) (b : Block) (R : Roomy room (variables (lines b))) where
     pub reached : Even room (variables (lines b)) → (m : ℕ) (t : W.State) → WordRunIn (fresh-word (variables (lines b)) v) m t
         → Reached (fresh-source v) t
     reached E m t g = ⊎-elim
-        (λ z. inl (second, ap (W.step room w) (sym (z .1)) ∙ first))
+        (λ z. inl (second, ap (W.step room (word b)) (sym (z .1)) ∙ first))
         (λ z. reach E (suc (z .1)) (z .1) (omega arith) (fresh-source v) (counts K v) t start
         (subst (λ u. WordRunIn u (z .1) t) (Option·some-injective (z .0) second (sym (z .2) ∙ first)) (z .3)))
         (inversion g)
