@@ -153,7 +153,10 @@ fn shorter(bytes: &[u8]) -> Vec<Vec<u8>> {
 
 /// The case as small as cutting its bytes makes it while the two still differ.
 fn smallest(mut bytes: Vec<u8>, differ: &dyn Fn(&[u8]) -> Pair) -> Vec<u8> {
-    while let Some(next) = shorter(&bytes).into_iter().find(|b| { let (t, l) = differ(b); t != l }) {
+    while let Some(next) = shorter(&bytes).into_iter().find(|b| {
+        let (twin, library) = differ(b);
+        twin != library
+    }) {
         bytes = next;
     }
     bytes
@@ -194,7 +197,8 @@ fn try_all(case: u64, random: &mut Random) {
     hold("run a source from a list", case, numbers.clone(), &|l| source_run(l, true, &state, budget.min(100_000)));
 
     let machine = random.machine();
-    let word = random.word(machine.registers + usize::from(random.once_in(6)));
+    let named = machine.registers + usize::from(random.once_in(6));
+    let word = random.word(named);
     let count = word::read(&word).map_or(3, |t| t.len());
     let (kinds, operands) = (output(random, count, FILL), output(random, count, u32::from(FILL)));
     hold("read a word", case, word.clone(), &|w| read_word(w, &kinds, &operands));
