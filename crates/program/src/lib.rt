@@ -1,4 +1,6 @@
 // Programs as text and as a list of three numbers a command (document 01, "The program text"): checked by rules 1 to 8, read and written.
+mod nest; // nest.rt: rules 4 to 7, for one command under the pairs that are open
+
 use theory::Refusal;
 
 // What is known of an accepted program: its number of commands, and K, the highest index named plus 1.
