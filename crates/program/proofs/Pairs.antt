@@ -1,13 +1,13 @@
 -- Laws of one command under the pairs that are open: what the code's tests say of the definitions' verdict, and the stack after it.
 use mathlib.Core.Path.{_≡_, refl, sym, ap, _∙_}
-use mathlib.Core.Bool.{Bool, true, false, cond, not, _&&_}
-use mathlib.Core.Option.{Option, none, some}
+use mathlib.Core.Bool.{Bool, true, false, cond, not, _&&_, false≢true}
+use mathlib.Core.Option.{Option, none, some, Option·none-ne-some}
 use mathlib.Core.List.{List, [], _∷_}
 use Prim.Native.Nat.{ℕ, zero, suc, _+_, _-_, _<_, _≤_, max}
 use native.Mathlib.Numerals.{add-one}
 use native.Mathlib.Omega.{arith}
 use borrow.Author.Tests.{ltb-true, eqb-true, lt-leb, le-leb, lt-ltb, le-ltb, eq-eqb, ne-eqb}
-use lib.Dec.{eqb, ltb, leb}
+use lib.Dec.{eqb, ltb}
 use lib.ListN.{length, getD, set}
 use lib.Seq.{getD-set-same, getD-set-other}
 use Rattle.theory.specs.Limits.{most-open}
@@ -15,6 +15,7 @@ use Rattle.theory.specs.Basics.{or-else}
 use Rattle.theory.specs.ProgramText.{Plain, clear, increment, copy, Kind, loop, while, Command, plain, opens, closes, indices, above, command-of}
 use Rattle.theory.specs.TurnedDown.{Open, unless, refuse, same-kind, pair-fault, line-fault, open-next}
 use Rattle.theory.specs.declared.Refusal.{Refusal}
+use Rattle.theory.proofs.Nesting.{few-open, one-open}
 use Rattle.program.specs.declared.nest.Opening.{Opening}
 use Rattle.program.specs.declared.nest.Nest.{Nest}
 use Rattle.program.specs.declared.nest.Judged.{Judged}
@@ -85,17 +86,14 @@ module _ (n : ℕ) (s : Nest) (k i : ℕ) where
 
 -- A command by its numbers
 
-untrue : {A : Type 0} → false ≡ true → A
-untrue e = let z : _≡_ {A = ℕ} 0 1 = cc in absurd (omega arith)
-
 known-below : (k j : ℕ) → is-known k j ≡ true → k < 8
 known-below k j h = go (eqb k 0) (eqb k 3) (ltb k 8) refl refl refl h
   where
     go : (a b c : Bool) → eqb k 0 ≡ a → eqb k 3 ≡ b → ltb k 8 ≡ c → cond a false (cond b true (cond c (eqb j 0) false)) ≡ true → k < 8
     go a b true ea eb ec e = ltb-true k 8 ec
-    go true b false ea eb ec e = untrue e
+    go true b false ea eb ec e = absurd (false≢true e)
     go false true false ea eb ec e = omega (arith, eqb-true k 3 eb)
-    go false false false ea eb ec e = untrue e
+    go false false false ea eb ec e = absurd (false≢true e)
 
 -- What three numbers are, where they are a command; all but kinds 4 to 7 are plain
 pub record Known (k i j : ℕ) : Type 0 where
@@ -109,7 +107,7 @@ one-index i j h = omega (arith, eqb-true j 0 h)
 
 pub known : (k i j : ℕ) → is-known k j ≡ true → Known k i j
 unfolding command-of
-known zero i j h = untrue h
+known zero i j h = absurd (false≢true h)
 known (suc zero) i j h = record { command = plain (clear i); is = rw h; top = one-index i j h; other = λ _ _ _ _. (clear i, refl) }
 known (suc (suc zero)) i j h = record { command = plain (increment i); is = rw h; top = one-index i j h; other = λ _ _ _ _. (increment i, refl) }
 known (suc (suc (suc zero))) i j h = record { command = plain (copy i j); is = refl; top = omega arith; other = λ _ _ _ _. (copy i j, refl) }
@@ -135,7 +133,7 @@ unfolding command-of
 unknown zero i j h = none-either-way (eqb j 0)
 unknown (suc zero) i j h = rw h
 unknown (suc (suc zero)) i j h = rw h
-unknown (suc (suc (suc zero))) i j h = untrue (sym h)
+unknown (suc (suc (suc zero))) i j h = absurd (false≢true (sym h))
 unknown (suc (suc (suc (suc zero)))) i j h = rw h
 unknown (suc (suc (suc (suc (suc zero))))) i j h = rw h
 unknown (suc (suc (suc (suc (suc (suc zero)))))) i j h = rw h
@@ -192,32 +190,15 @@ module _ (n : ℕ) (os : List Open) (k i j : ℕ) where
 
 -- A command that passed
 
-never : {A : Type 0} {r : Refusal} → some r ≡ none → A
-never e = let z : _≡_ {A = ℕ} 0 1 = cc in absurd (omega arith)
-
-passed-known : (n : ℕ) (os : List Open) (k i j : ℕ) → line-fault n os (command-of k i j) ≡ none → is-known k j ≡ true
+pub passed-known : (n : ℕ) (os : List Open) (k i j : ℕ) → line-fault n os (command-of k i j) ≡ none → is-known k j ≡ true
 passed-known n os k i j h = go (is-known k j) refl
   where
     go : (b : Bool) → is-known k j ≡ b → is-known k j ≡ true
     go true e = e
-    go false e = never (rw (unknown k i j e) at h)
-
-passed-pair : (n : ℕ) (os : List Open) (c : Command) → line-fault n os (some c) ≡ none → pair-fault n os c ≡ none
-passed-pair n os c h = go (leb (above (indices c)) 32) h
-  where
-    go : (b : Bool) → or-else (unless b 5 n) (pair-fault n os c) ≡ none → pair-fault n os c ≡ none
-    go true e = e
-    go false e = never e
-
-passed-room : (n : ℕ) (os : List Open) (k : Kind) (i : ℕ) → line-fault n os (some (opens k i)) ≡ none → length os < 16
-passed-room n os k i h = go (ltb (length os) 16) refl (passed-pair n os (opens k i) h)
-  where
-    go : (b : Bool) → ltb (length os) 16 ≡ b → unless b 6 n ≡ none → length os < 16
-    go true e f = ltb-true (length os) 16 e
-    go false e f = never f
+    go false e = absurd (Option·none-ne-some _ (sym (rw (unknown k i j e) at h)))
 
 passed-open : (n : ℕ) (os : List Open) (k : Kind) (i : ℕ) → line-fault n os (some (closes k i)) ≡ none → 0 < length os
-passed-open n [] k i h = never (passed-pair n [] (closes k i) h)
+passed-open n [] k i h = absurd (one-open n k i h)
 passed-open n (o ∷ os) k i h = omega arith
 
 module _ (s : Nest) (n k i j : ℕ) (h : line-fault n (open-pairs s) (command-of k i j) ≡ none) where
@@ -225,7 +206,7 @@ module _ (s : Nest) (n k i j : ℕ) (h : line-fault n (open-pairs s) (command-of
   next-known = passed-known n (open-pairs s) k i j h
 
   pub next-room : (k′ : Kind) → command-of k i j ≡ some (opens k′ i) → s .count < 16
-  next-room k′ e = omega (arith, passed-room n (open-pairs s) k′ i (rw e at h), length-innermost (s .count) (s .openings))
+  next-room k′ e = omega (arith, few-open n (open-pairs s) k′ i (rw e at h), length-innermost (s .count) (s .openings))
 
   pub next-open : (k′ : Kind) → command-of k i j ≡ some (closes k′ i) → 0 < s .count
   next-open k′ e = omega (arith, passed-open n (open-pairs s) k′ i (rw e at h), length-innermost (s .count) (s .openings))
@@ -247,3 +228,13 @@ follows-pop n s r k i e f h = record { pairs = rw (e, f); room = omega arith }
 
 pub follows-plain : (n : ℕ) (s : Nest) (p : Plain) → s .count ≤ 16 → Follows n (open-pairs s) (some (plain p)) s
 follows-plain n s p h = record { pairs = refl; room = h }
+
+-- The verdict read back
+
+pub judged-fault : (o : Option Refusal) {r : Refusal} {v : Judged} → v ≡ judgement o → v ≡ Fault r → o ≡ some r
+judged-fault none e f = cc
+judged-fault (some q) e f = cc
+
+pub judged-passes : (o : Option Refusal) {v : Judged} → v ≡ judgement o → v ≡ Passes → o ≡ none
+judged-passes none e f = refl
+judged-passes (some q) e f = cc
