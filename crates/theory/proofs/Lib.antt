@@ -1,2 +1,4 @@
 pub mod Budgets
 pub mod Table
+pub mod Faults
+pub mod Words
