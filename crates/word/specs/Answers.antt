@@ -5,11 +5,11 @@ use lib.ListN.{length}
 use Rattle.theory.specs.Basics.{or-else}
 use Rattle.theory.specs.Word.{Entry, spell-entries, bytes-of}
 use Rattle.theory.specs.TurnedDown.{Answer, done, refused, answer, after, mapped, read-word, read-table, rule-19, lend}
-use Rattle.word.specs.declared.Instruction.{Instruction}
-use Rattle.word.specs.declared.Read.{Read}
-use Rattle.word.specs.declared.Read.the-variants as R
-use Rattle.word.specs.declared.Written.{Written}
-use Rattle.word.specs.declared.Written.the-variants as W
+use Rattle.word.specs.declared.answers.Instruction.{Instruction}
+use Rattle.word.specs.declared.answers.Read.{Read}
+use Rattle.word.specs.declared.answers.Read.the-variants as R
+use Rattle.word.specs.declared.answers.Written.{Written}
+use Rattle.word.specs.declared.answers.Written.the-variants as W
 
 -- Tables of numbers
 

@@ -1,32 +1,7 @@
-// Words and instruction tables.
-use theory::Refusal;
+// Words and instruction tables. Reading a word fills a lent table, and writing spells a table into a lent word. A table is two slices of numbers,
+// kinds and operands, or one slice of records.
+mod answers;
 
-// An instruction: its kind, the number of # (1 to 5), and its operand, the number of 1s before them.
-pub struct Instruction {
-    pub kind: u8,
-    pub operand: u32,
-}
-
-impl Instruction {
-    pub const SYMBOLS: usize = 600000;
-    pub const INSTRUCTIONS: usize = 8192;
-    pub const KINDS: u8 = 5;
-}
-
-// The number of instructions read, or why the word or the table is turned down.
-pub enum Read {
-    Done(usize),
-    Refused(Refusal),
-}
-
-// The number of symbols written, or why the table is turned down.
-pub enum Written {
-    Done(usize),
-    Refused(Refusal),
-}
-
-// The refusal of a rule at a place, as an answer.
-fn refused(number: u32, place: usize) -> Read
-{
-    Read::Refused(Refusal { number, place })
-}
+pub use answers::Instruction;
+pub use answers::Read;
+pub use answers::Written;
