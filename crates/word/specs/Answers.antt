@@ -1,10 +1,11 @@
--- What this crate's entries hand back, by the definitions of crate theory: tables as two lists of numbers or as a list of records, and the answers.
+-- What this crate's entries hand back, by the definitions of crate theory: tables, as two lists of numbers or as a list of records, and answers.
+use mathlib.Core.Path.{_≡_}
 use mathlib.Core.List.{List, [], _∷_, map}
 use Prim.Native.Nat.{ℕ}
 use lib.ListN.{length}
 use Rattle.theory.specs.Basics.{or-else}
 use Rattle.theory.specs.Word.{Entry, spell-entries, bytes-of}
-use Rattle.theory.specs.TurnedDown.{Answer, done, refused, answer, after, mapped, read-word, read-table, rule-19, lend}
+use Rattle.theory.specs.TurnedDown.{Answer, done, refused, answer, after, mapped, read-word, read-table, rule-19, lend, lent-after}
 use Rattle.word.specs.declared.answers.Instruction.{Instruction}
 use Rattle.word.specs.declared.answers.Read.{Read}
 use Rattle.word.specs.declared.answers.Read.the-variants as R
@@ -54,6 +55,16 @@ written-answer (refused r) = W.Refused r
 unfoldable pub read-into : List ℕ → List ℕ → List ℕ → Answer (List Entry)
 read-into kinds operands w = after (read-word w) λ t. answer (or-else (rule-19 kinds t) (rule-19 operands t)) t
 
+-- What is handed back, and the lent lists then
+abbrev pub ReadsInto : (word kinds operands : List ℕ) → Read → (kinds′ operands′ : List ℕ) → Type 0
+ReadsInto word kinds operands r kinds′ operands′ =
+    (r ≡ read-answer (read-into kinds operands word))
+    × (kinds′ ≡ lent-after kinds (mapped kinds-of (read-into kinds operands word)))
+    × (operands′ ≡ lent-after operands (mapped operands-of (read-into kinds operands word)))
+
 -- A table written as a word into a lent list of bytes: rules 11, 13 and 14 as for tables, then 19
 unfoldable pub write-into : List ℕ → List Entry → Answer (List ℕ)
 write-into word t = lend word (mapped (λ t′. bytes-of (spell-entries t′)) (read-table t))
+
+abbrev pub WritesInto : (table : List Entry) (word : List ℕ) → Written → (word′ : List ℕ) → Type 0
+WritesInto table word r word′ = (r ≡ written-answer (write-into word table)) × (word′ ≡ lent-after word (write-into word table))

@@ -9,7 +9,9 @@ pub struct Instruction {
 
 impl Instruction {
     pub const SYMBOLS: usize = 600000;
+
     pub const INSTRUCTIONS: usize = 8192;
+
     pub const KINDS: u8 = 5;
 }
 
@@ -24,4 +26,3 @@ pub enum Written {
     Done(usize),
     Refused(Refusal),
 }
-
