@@ -3,6 +3,7 @@
 #[cfg(feature = "library")]
 pub mod library;
 pub mod machine;
+pub mod page;
 pub mod program;
 pub mod random;
 pub mod sheet;
