@@ -1,7 +1,7 @@
 -- Rules 3 to 8 as facts about a program: what is read is accepted; an accepted program keeps the limits, line by line, and is the lines of
 -- its block; and a block is that of its lines.
 use mathlib.Core.Path.{_≡_, refl, sym, ap, ap₂, _∙_}
-use mathlib.Core.Bool.{Bool, true, false, _&&_, false≢true}
+use mathlib.Core.Bool.{Bool, true, _&&_, false≢true}
 use mathlib.Core.Option.{Option, none, some, Option·none-ne-some}
 use mathlib.Core.List.{List, [], _∷_, _++_, map, append-assoc, append-nil}
 use Prim.Native.Nat.{ℕ, suc, _+_, _≤_, _<_, max}
@@ -14,36 +14,11 @@ use Rattle.theory.specs.Basics.{or-else, present}
 use Rattle.theory.specs.Text.{Bytes}
 use Rattle.theory.specs.ProgramText.{Plain, Kind, loop, while, Command, plain, opens, closes, indices, above, variables, listed}
 use Rattle.theory.specs.ProgramText.{Block, end, line, pair, lines, Blocks, opened-by, blocks, block-of}
-use Rattle.theory.specs.TurnedDown.{done, answer, unless, rule-1, rule-2, rule-3, Open, same-kind, pair-fault, line-fault, open-next}
+use Rattle.theory.specs.TurnedDown.{done, unless, rule-1, rule-2, rule-3, Open, same-kind, pair-fault, line-fault, open-next}
 use Rattle.theory.specs.TurnedDown.{lines-fault, program-fault, text-lines, text-fault, read-text, read-list}
 use Rattle.theory.specs.Claims.{Accepted, ReadsAccepted, EachOf}
 use Rattle.theory.specs.declared.Refusal.{Refusal}
-
--- Where no rule of two turns a thing down, neither does; where a test turns nothing down, it passes
-
-pub none-first : {A : Type 0} (x y : Option A) → or-else x y ≡ none → x ≡ none
-none-first none y e = refl
-none-first (some r) y e = e
-
-pub none-second : {A : Type 0} (x y : Option A) → or-else x y ≡ none → y ≡ none
-none-second none y e = e
-none-second (some r) y e = absurd (Option·none-ne-some r (sym e))
-
-pub none-both : {A : Type 0} (x y : Option A) → x ≡ none → y ≡ none → or-else x y ≡ none
-none-both none y e f = f
-none-both (some r) y e f = e
-
-pub passes : (t : Bool) (k n : ℕ) → unless t k n ≡ none → t ≡ true
-passes true k n e = refl
-passes false k n e = absurd (Option·none-ne-some _ (sym e))
-
-pub answered : {A : Type 0} (r : Option Refusal) (a b : A) → answer r a ≡ done b → (r ≡ none) × (a ≡ b)
-answered none a b e = (refl, cc)
-answered (some r) a b e = let z : _≡_ {A = ℕ} 0 1 = cc in absurd (omega arith)
-
-and-both : (a b : Bool) → (a && b) ≡ true → (a ≡ true) × (b ≡ true)
-and-both true b e = (refl, e)
-and-both false b e = absurd (false≢true e)
+use Rattle.theory.proofs.Faults.{none-first, none-second, neither, answer-done, unless-none, and-first, and-second}
 
 kinds : (k l : Kind) → same-kind k l ≡ true → k ≡ l
 kinds loop loop e = refl
@@ -56,13 +31,14 @@ kinds while while e = refl
 pub indexed : (n : ℕ) (os : List Open) (c : Command) → line-fault n os (some c) ≡ none → above (indices c) ≤ suc Limits.most-index
 indexed n os c e =
     let t : Bool = leb (above (indices c)) (suc Limits.most-index) in
-    leb-true (above (indices c)) (suc Limits.most-index) (passes t 5 n (none-first (unless t 5 n) (pair-fault n os c) e))
+    leb-true (above (indices c)) (suc Limits.most-index) (unless-none t 5 n (none-first (unless t 5 n) (pair-fault n os c) e))
 
 pub paired : (n : ℕ) (os : List Open) (c : Command) → line-fault n os (some c) ≡ none → pair-fault n os c ≡ none
 paired n os c e = none-second (unless (leb (above (indices c)) (suc Limits.most-index)) 5 n) (pair-fault n os c) e
 
 pub few-open : (n : ℕ) (os : List Open) (k : Kind) (i : ℕ) → line-fault n os (some (opens k i)) ≡ none → length os < Limits.most-open
-few-open n os k i e = ltb-true (length os) Limits.most-open (passes (ltb (length os) Limits.most-open) 6 n (paired n os (opens k i) e))
+few-open n os k i e =
+    ltb-true (length os) Limits.most-open (unless-none (ltb (length os) Limits.most-open) 6 n (paired n os (opens k i) e))
 
 pub one-open : (n : ℕ) (k : Kind) (i : ℕ) → line-fault n [] (some (closes k i)) ≡ none → ⊥
 one-open n k i e = Option·none-ne-some _ (sym (paired n [] (closes k i) e))
@@ -71,8 +47,8 @@ pub matching : (n : ℕ) (o : Open) (os : List Open) (k : Kind) (i : ℕ) → li
     → (k ≡ o .kind) × (i ≡ o .index)
 matching n o os k i e =
     let t : Bool = same-kind k (o .kind) && eqb i (o .index) in
-    let both : _ = and-both (same-kind k (o .kind)) (eqb i (o .index)) (passes t 7 n (paired n (o ∷ os) (closes k i) e)) in
-    (kinds k (o .kind) (both .0), eqb-true i (o .index) (both .1))
+    let h : t ≡ true = unless-none t 7 n (paired n (o ∷ os) (closes k i) e) in
+    (kinds k (o .kind) (and-first (same-kind k (o .kind)) _ h), eqb-true i (o .index) (and-second (same-kind k (o .kind)) _ h))
 
 -- The first line has no fault, and the others have none under the pairs that are then open
 pub first-line : (n : ℕ) (os : List Open) (c : Option Command) (l : List (Option Command)) → lines-fault n os (c ∷ l) ≡ none
@@ -90,7 +66,7 @@ pub faultless : (l : List (Option Command)) → program-fault l ≡ none → (le
 unfolding program-fault rule-3
 faultless l e =
     let t : leb (length l) Limits.most-lines ≡ true =
-    passes (leb (length l) Limits.most-lines) 3 (suc Limits.most-lines) (none-first (rule-3 l) (lines-fault 1 [] l) e) in
+    unless-none (leb (length l) Limits.most-lines) 3 (suc Limits.most-lines) (none-first (rule-3 l) (lines-fault 1 [] l) e) in
     (leb-true (length l) Limits.most-lines t, none-second (rule-3 l) (lines-fault 1 [] l) e)
 
 -- An accepted program, rule by rule
@@ -104,7 +80,7 @@ pub accepts : (p : List Command) → length p ≤ Limits.most-lines → lines-fa
 unfolding program-fault rule-3
 accepts p l e =
     let few : length (map some p) ≤ Limits.most-lines = omega (arith, length-map p some) in
-    none-both (rule-3 (map some p)) (lines-fault 1 [] (map some p)) (rw (le-leb (length (map some p)) Limits.most-lines few)) e
+    neither (rule-3 (map some p)) (lines-fault 1 [] (map some p)) (rw (le-leb (length (map some p)) Limits.most-lines few)) e
 
 -- Line by line: no rule turns a line down, under the pairs open there
 abbrev pub LinesSound : ℕ → List Open → List Command → Type 0
@@ -154,11 +130,11 @@ present-accepted l p e h = rw (← h, nothing-missing l e) e
 -- What a text or a list is read as, and that its lines have no fault
 pub text-read : (t : Bytes) (p : List Command) → read-text t ≡ done p → (text-fault t ≡ none) × (present (text-lines t) ≡ p)
 unfolding read-text
-text-read t p e = answered (text-fault t) (present (text-lines t)) p e
+text-read t p e = answer-done (text-fault t) (present (text-lines t)) p e
 
 pub list-read : (l : List ℕ) (p : List Command) → read-list l ≡ done p → (program-fault (listed l) ≡ none) × (present (listed l) ≡ p)
 unfolding read-list
-list-read l p e = answered (program-fault (listed l)) (present (listed l)) p e
+list-read l p e = answer-done (program-fault (listed l)) (present (listed l)) p e
 
 pub text-sound : (t : Bytes) → text-fault t ≡ none → program-fault (text-lines t) ≡ none
 unfolding text-fault

@@ -1,22 +1,29 @@
 -- Sizes of words: how many symbols and instructions a block's code has, as sums over the block, and the limits that the word of an
 -- accepted program keeps.
 use mathlib.Core.Path.{_≡_, refl, ap, _∙_}
-use mathlib.Core.Bool.{Bool, true, false, cond, false≢true}
+use mathlib.Core.Bool.{Bool, true, false, cond, _&&_, false≢true}
+use mathlib.Core.Option.{none}
 use mathlib.Core.List.{List, [], _∷_, _++_, map, append-assoc}
 use Prim.Native.Nat.{ℕ, zero, suc, _+_, _*_, _≤_, _<_, max}
 use native.Mathlib.Omega.{arith}
-use lib.ListN.{length, length-append, length-replicate, length-map}
-use lib.Dec.{eqb}
+use lib.ListN.{length, length-append, length-map}
+use lib.Dec.{eqb, ltb}
+use borrow.Author.Tests.{le-ltb}
 use Rattle.theory.specs.Limits
+use Rattle.theory.specs.Basics.{given}
 use Rattle.theory.specs.ProgramText.{Plain, clear, increment, copy, Kind, loop, while, Command, plain, closes, above, indices}
 use Rattle.theory.specs.ProgramText.{variables, Block, end, line, pair, lines, block-of}
 use Rattle.theory.specs.Source.{deeper}
 use Rattle.theory.specs.Word.{byte-of, one, Instruction, append, forward, backward, cases, kind, operand, Entry, entry-of, table-of}
 use Rattle.theory.specs.Word.{spell-entries, spell, bytes-of}
 use Rattle.theory.specs.Translation.{register, scratch, counter, clearing, sharing, returning, touching, copying, plain-code}
-use Rattle.theory.specs.Translation.{before-body, after-body, code, word, word-of}
-use Rattle.theory.specs.Claims.{Accepted, EachOf, NamesAtMost, Sized}
+use Rattle.theory.specs.Translation.{before-body, after-body, code, word, word-of, word-text}
+use Rattle.theory.specs.TurnedDown.{done, total, entry-size, first-along, names-register, lacks, rule-15, read-word-for}
+use Rattle.theory.specs.Claims.{Accepted, EachOf, NamesAtMost, Sized, WordsFit}
 use Rattle.theory.proofs.Nesting.{nest, shallow, short, few-variables, well-nested}
+use Rattle.theory.proofs.Faults.{neither}
+use Rattle.theory.proofs.Words.{total-length, GoodTable, entries-of-word, word-accepted}
+use Rattle.theory.proofs.Words.{formed-of-instructions, instructions-of-table}
 
 -- Spelling
 
@@ -38,13 +45,11 @@ bytes-append u w = ap bytes-of (spell-append u w) ∙ map-append byte-of (spell 
 
 -- The symbols of a word
 abbrev pub weight : List Instruction → ℕ
-weight [] = 0
-weight (i ∷ w) = operand i + kind i + weight w
+weight w = total (table-of w)
 
 pub spelled : (w : List Instruction) → length (spell w) ≡ weight w
-unfolding spell spell-entries
-spelled [] = refl
-spelled (i ∷ w) = simp (length-append, length-replicate) (omega (arith, spelled w))
+unfolding spell
+spelled w = total-length (table-of w)
 
 pub bytes-length : (w : List Instruction) → length (bytes-of (spell w)) ≡ weight w
 bytes-length w = length-map (spell w) byte-of ∙ spelled w
@@ -335,3 +340,42 @@ sized p a =
       registers = each-map (Fits (K + 17)) (NamesAtMost (K + 17)) (λ i f. f .register) (word-of p) (word-fits p a);
       variables = few;
     }
+
+-- So a set with 64 registers reads the word that is written, and its instructions are those of the word
+
+rule-15-passes : (most n : ℕ) (w : List Instruction) → EachOf (NamesAtMost most) w → first-along (lacks most) n (table-of w) ≡ none
+unfolding first-along
+rule-15-passes most n [] h = refl
+rule-15-passes most n (i ∷ w) h =
+    neither (lacks most n (entry-of i)) _ (go (names-register (kind i)) refl) (rule-15-passes most (n + entry-size (entry-of i)) w (h .1))
+  where
+    go : (t : Bool) → names-register (kind i) ≡ t → given (t && ltb most (operand i)) n ≡ none
+    go true e = rw (le-ltb most (operand i) (h .0 e))
+    go false e = refl
+
+word-good : (p : List Command) → Sized p → GoodTable (table-of (word-of p))
+unfolding word-of word spell
+word-good p s =
+    record {
+      some = omega arith;
+      symbols = omega (arith, s .symbols, spelled (word-of p));
+      formed = formed-of-instructions (word-of p) (s .operands);
+      instructions = omega (arith, s .instructions, length-map (word-of p) entry-of);
+    }
+
+pub words-fit : WordsFit
+unfolding read-word-for word-text spell rule-15
+words-fit p a = (sized p a, read, instructions-of-table (word-of p) (sized p a .operands))
+  where
+    within-64 : EachOf (NamesAtMost Limits.most-registers) (word-of p)
+    within-64 =
+        let most : ℕ = variables p + 17 in
+        let enough : most ≤ Limits.most-registers = omega (arith, few-variables p a) in
+        let names : (i : Instruction) → NamesAtMost most i → NamesAtMost Limits.most-registers i = λ i h e. omega (arith, h e) in
+        each-map (NamesAtMost most) (NamesAtMost Limits.most-registers) names (word-of p) (sized p a .registers)
+
+    read : read-word-for Limits.most-registers (word-text p) ≡ done (table-of (word-of p))
+    read =
+        let t : List Entry = table-of (word-of p) in
+        let g : GoodTable t = word-good p (sized p a) in
+        rw (entries-of-word t (g .formed), word-accepted t g, rule-15-passes Limits.most-registers 0 (word-of p) within-64)
