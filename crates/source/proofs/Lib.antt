@@ -1,0 +1,4 @@
+pub mod Program
+pub mod Steps
+pub mod Entries
+pub mod Targets
