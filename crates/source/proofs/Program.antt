@@ -147,6 +147,10 @@ module _ (l : List ℕ) (h : Holds l) (m : ℕ) (inside : m < length (program l)
   pub kind-within : (1 ≤ getD l (3 * m) 0) × (getD l (3 * m) 0 ≤ 7)
   kind-within = rw (h .whole) at (kind-range (program l) m inside)
 
+  -- A line that is not plain
+  pub past-plain : (getD l (3 * m) 0 ≡ 1 → ⊥) → (getD l (3 * m) 0 ≡ 2 → ⊥) → (getD l (3 * m) 0 ≡ 3 → ⊥) → 3 < getD l (3 * m) 0
+  past-plain a b c = omega (arith, kind-within .0)
+
   pub partner : Known (program l) (suc m) (command-at l m)
   partner =
       let nested : lines (block-of (program l)) ≡ program l = well-nested (program l) (h .accepted) in

@@ -15,7 +15,7 @@ use Rattle.theory.specs.Source.{Opening, closed, innermost, open-after, open-at
 use Rattle.theory.proofs.Cells.{at-within}
 use Rattle.theory.proofs.Partners.{Known, Partners}
 use Rattle.source.specs.Lines.{program, Holds, command-at, Jump, Reaches}
-use Rattle.source.proofs.Program.{here, kind-within, partner, open-more, open-room}
+use Rattle.source.proofs.Program.{here, kind-within, past-plain, partner, open-more, open-room}
 use Rattle.source.proofs.Steps.{kind-at, first-at, second-at, of-kind}
 
 -- The stack has the lines that are open, counted from 0, the innermost last
@@ -70,10 +70,7 @@ module _ (l : List ℕ) (h : Holds l) where
   linking-end deep st ts k m inside =
       k .targets m inside (due-at-last m inside (command-at l m) refl (partner l h m inside))
 
--- A kind of 1 to 7 that is not among the first three, or the first six
-past-three : (k : ℕ) → 1 ≤ k → (k ≡ 1 → ⊥) → (k ≡ 2 → ⊥) → (k ≡ 3 → ⊥) → 4 ≤ k
-past-three k low a b c = omega arith
-
+-- A kind of 4 to 7 that is none of the first three of these
 past-six : (k : ℕ) → 4 ≤ k → k ≤ 7 → (k ≡ 4 → ⊥) → (k ≡ 5 → ⊥) → (k ≡ 6 → ⊥) → k ≡ 7
 past-six k low high a b c = omega arith
 
@@ -127,8 +124,7 @@ module _ (l : List ℕ) (h : Holds l) (n : ℕ) (inside : n < length (program l)
       go (no a) (yes e) c = (increment (first-at l n), of-kind l n 2 e)
       go (no a) (no b) (yes e) = (copy (first-at l n) (second-at l n), of-kind l n 3 e)
       go (no a) (no b) (no c) =
-          let range : _ = kind-within l h n inside in
-          absurd (seven (past-six (kind-at l n) (past-three (kind-at l n) (range .0) a b c) (range .1) four five six))
+          absurd (seven (past-six (kind-at l n) (past-plain l h n inside a b c) (kind-within l h n inside .1) four five six))
 
   pub linking-plain : (c : Plain) → command-at l n ≡ plain c → Linking l (n + 1) deep st ts
   linking-plain c e =

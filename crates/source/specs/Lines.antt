@@ -6,6 +6,7 @@ use mathlib.Core.List.{List}
 use Prim.Native.Nat.{ℕ, zero, suc, pred, _+_, _*_, _≤_, _<_}
 use lib.ListN.{length, getD}
 use lib.Dec.{eqb}
+use Rattle.theory.specs.Limits.{state-values, state-passes}
 use Rattle.theory.specs.Basics.{present}
 use Rattle.theory.specs.ProgramText.{Command, plain, clear, increment, copy, opens, closes, loop, while, list-of, listed}
 use Rattle.theory.specs.Runs.{Outcome, run, within}
@@ -83,6 +84,17 @@ pub record Fits (l : List ℕ) (lines : ℕ) (table : List ℕ) : Type 0 where
   pub room : lines ≤ length table
 
 -- A step
+
+-- The line is one of the program that the list holds, the tables are filled, and the lists are those of a state
+pub record Ready (l targets entries : List ℕ) (line : ℕ) (vs ps : List ℕ) : Type 0 where
+  pub holds : Holds l
+  pub filled : Filled l targets entries
+  pub targets-room : length (program l) ≤ length targets
+  pub entries-room : length (program l) ≤ length entries
+  pub low : 0 < line
+  pub high : line ≤ length (program l)
+  pub values-are : length vs ≡ state-values
+  pub passes-are : length ps ≡ state-passes
 
 -- What a step hands back, with the lists as they are then
 abbrev pub next-of : Next → List ℕ → List ℕ → Option S.State

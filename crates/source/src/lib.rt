@@ -1,9 +1,9 @@
 // The source interpreter of document 01.
 ghost use mathlib.Core.Path.{_≡_};
-ghost use Prim.Native.Nat.{ℕ, _+_, _*_, _<_, _≤_};
-ghost use lib.ListN.{length, set};
+ghost use Prim.Native.Nat.{ℕ, _+_, _-_, _*_, _<_, _≤_};
+ghost use lib.ListN.{length, getD, set};
 ghost use Rattle.source.specs.Answers.{fresh-state};
-ghost use Rattle.source.specs.Lines.{program, Holds, Fits, Entered, Linked, Filled, Stepped};
+ghost use Rattle.source.specs.Lines.{program, Holds, Fits, Entered, Linked, Filled, Ready, Stepped};
 use theory::End;
 use theory::Refusal;
 
@@ -117,5 +117,75 @@ fn fill_targets(list: &[u8], lines: usize, targets: &mut [u16])
             }
             _ => {}
         }
+    }
+}
+
+// A step at a line of a pair.
+fn jump(list: &[u8], targets: &[u16], entries: &[u8], line: u32, values: &[u32], passes: &mut [u32]) -> Next
+    requires { ⌜ Ready (now list) (now targets) (now entries) line (now values) (now passes) × (3 < getD (now list) (3 * (line - 1)) 0) ⌝ }
+    ensures { λ r. ⌜ ((capacity : ℕ) → Stepped (program (now (list .entry))) capacity line (now (values .entry)) (now (passes .entry)) r (now (values .entry)) (now (passes .exit))) ⌝ }
+{
+    let here = line as usize - 1;
+    let next = line + 1;
+    let target = targets[here] as u32;
+    let k = values[list[3 * here + 1] as usize];
+    match list[3 * here] {
+        4 => {
+            if k == 0 {
+                return Next::At(target);
+            }
+            passes[entries[here] as usize] = k;
+            Next::At(next)
+        }
+        5 => {
+            let d = entries[here] as usize;
+            let left = passes[d];
+            if left <= 1 {
+                passes[d] = 0;
+                return Next::At(next);
+            }
+            passes[d] = left - 1;
+            Next::At(target)
+        }
+        6 => {
+            if k == 0 {
+                return Next::At(target);
+            }
+            Next::At(next)
+        }
+        _ => Next::At(target),
+    }
+}
+
+// A step at a line of the program: the next line, or full. A full step changes nothing.
+fn step(list: &[u8], targets: &[u16], entries: &[u8], capacity: u32, line: u32, values: &mut [u32], passes: &mut [u32]) -> Next
+    requires { ⌜ Ready (now list) (now targets) (now entries) line (now values) (now passes) ⌝ }
+    ensures { λ r. ⌜ Stepped (program (now (list .entry))) capacity line (now (values .entry)) (now (passes .entry)) r (now (values .exit)) (now (passes .exit)) ⌝ }
+{
+    let here = line as usize - 1;
+    let next = line + 1;
+    let i = list[3 * here + 1] as usize;
+    match list[3 * here] {
+        1 => {
+            values[i] = 0;
+            Next::At(next)
+        }
+        2 => {
+            let v = values[i];
+            if capacity <= v {
+                return Next::Full;
+            }
+            values[i] = v + 1;
+            Next::At(next)
+        }
+        3 => {
+            let v = values[list[3 * here + 2] as usize];
+            if capacity < v {
+                return Next::Full;
+            }
+            values[i] = v;
+            Next::At(next)
+        }
+        _ => jump(list, targets, entries, line, values, passes),
     }
 }
