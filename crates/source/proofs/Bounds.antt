@@ -16,30 +16,30 @@ module _ {l ts es : List ℕ} {line : ℕ} {vs ps : List ℕ} (r : Ready l ts es
   inside = omega (arith, r .low, r .high)
 
   pub few : line ≤ 512
-  few = omega (arith, few-lines l (r .holds), r .high)
+  few = omega (arith, few-lines l (r .filled .holds), r .high)
 
   -- The three numbers, and the table's cells, of the line
   pub numbers-in : 3 * m + 2 < length l
-  numbers-in = omega (arith, inside, numbers-length l (r .holds))
+  numbers-in = omega (arith, inside, numbers-length l (r .filled .holds))
 
   pub target-in : m < length ts
-  target-in = omega (arith, inside, r .targets-room)
+  target-in = omega (arith, inside, r .filled .targets-room)
 
   pub entry-in : m < length es
-  entry-in = omega (arith, inside, r .entries-room)
+  entry-in = omega (arith, inside, r .filled .entries-room)
 
   -- The variables, and the entries of the passes-left, that the line names
   pub first-in : (first-at l m < length vs) × (first-at l m < 32)
-  first-in = omega (arith, first-low l (r .holds) m inside, r .values-are)
+  first-in = omega (arith, first-low l (r .filled .holds) m inside, r .values-are)
 
   pub second-in : kind-at l m ≡ 3 → (second-at l m < length vs) × (second-at l m < 32)
-  second-in e = omega (arith, second-low l (r .holds) m inside e, r .values-are)
+  second-in e = omega (arith, second-low l (r .filled .holds) m inside e, r .values-are)
 
   pub opened-in : kind-at l m ≡ 4 → (getD es m 0 < length ps) × (getD es m 0 < 16)
-  opened-in e = omega (arith, opening-entry l (r .holds) m inside es (r .filled .enters m inside) e .1, r .passes-are)
+  opened-in e = omega (arith, opening-entry l (r .filled .holds) m inside es (r .filled .enters m inside) e .1, r .passes-are)
 
   pub closed-in : kind-at l m ≡ 5 → (getD es m 0 < length ps) × (getD es m 0 < 16)
-  closed-in e = omega (arith, closing-entry l (r .holds) m inside es (r .filled .enters m inside) e .1, r .passes-are)
+  closed-in e = omega (arith, closing-entry l (r .filled .holds) m inside es (r .filled .enters m inside) e .1, r .passes-are)
 
   pub pair-line : (kind-at l m ≡ 1 → ⊥) → (kind-at l m ≡ 2 → ⊥) → (kind-at l m ≡ 3 → ⊥) → 3 < kind-at l m
-  pair-line = past-plain l (r .holds) m inside
+  pair-line = past-plain l (r .filled .holds) m inside

@@ -3,3 +3,4 @@ pub mod Steps
 pub mod Bounds
 pub mod Entries
 pub mod Targets
+pub mod Underway

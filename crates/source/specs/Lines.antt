@@ -9,7 +9,7 @@ use lib.Dec.{eqb}
 use Rattle.theory.specs.Limits.{state-values, state-passes}
 use Rattle.theory.specs.Basics.{present}
 use Rattle.theory.specs.ProgramText.{Command, plain, clear, increment, copy, opens, closes, loop, while, list-of, listed}
-use Rattle.theory.specs.Runs.{Outcome, run, within}
+use Rattle.theory.specs.Runs.{Machine, Outcome, run, within}
 use Rattle.theory.specs.Source as S
 use Rattle.theory.specs.Claims.{Accepted}
 use Rattle.source.specs.Answers.{stands}
@@ -74,8 +74,11 @@ abbrev pub Linked : List ℕ → List ℕ → Type 0
 Linked l targets = (m : ℕ) → m < length (program l) → Reaches (program l) (suc m) (command-at l m) (getD targets m 0)
 
 pub record Filled (l targets entries : List ℕ) : Type 0 where
+  pub holds : Holds l
   pub jumps : Linked l targets
   pub enters : Entered l entries
+  pub targets-room : length (program l) ≤ length targets
+  pub entries-room : length (program l) ≤ length entries
 
 -- A list that holds a program of so many lines, with tables that have room for them
 pub record Fits (l : List ℕ) (lines : ℕ) (table : List ℕ) : Type 0 where
@@ -85,12 +88,9 @@ pub record Fits (l : List ℕ) (lines : ℕ) (table : List ℕ) : Type 0 where
 
 -- A step
 
--- The line is one of the program that the list holds, the tables are filled, and the lists are those of a state
+-- The tables are filled, the line is one of the program, and the lists are those of a state
 pub record Ready (l targets entries : List ℕ) (line : ℕ) (vs ps : List ℕ) : Type 0 where
-  pub holds : Holds l
   pub filled : Filled l targets entries
-  pub targets-room : length (program l) ≤ length targets
-  pub entries-room : length (program l) ≤ length entries
   pub low : 0 < line
   pub high : line ≤ length (program l)
   pub values-are : length vs ≡ state-values
@@ -116,6 +116,24 @@ pub record Stepped (p : List Command) (capacity line : ℕ) (vs ps : List ℕ) (
   pub inside : Within p r
   pub kept : Kept r vs ps vs′ ps′
 
--- A run of so many steps at most: how it ended, the steps taken, and the state
+-- A run
+
+-- The same, of a program of so many lines; the line may be the one after the last
+pub record Startable (l targets entries : List ℕ) (lines line : ℕ) (vs ps : List ℕ) : Type 0 where
+  pub filled : Filled l targets entries
+  pub lines-are : lines ≡ length (program l)
+  pub low : 0 < line
+  pub high : line ≤ suc (length (program l))
+  pub values-are : length vs ≡ state-values
+  pub passes-are : length ps ≡ state-passes
+
+abbrev pub machine-of : List ℕ → ℕ → Machine S.State
+machine-of l capacity = S.machine (within capacity) (program l)
+
+-- A run of so many steps at most, from a count of 0
+unfoldable pub run-at : List ℕ → ℕ → ℕ → List ℕ → List ℕ → ℕ → Outcome S.State
+run-at l capacity line vs ps allowed = run (machine-of l capacity) allowed 0 (stands line vs ps)
+
+-- How it ended, the steps taken, and the state
 abbrev pub outcome-of : Stop → List ℕ → List ℕ → Outcome S.State
 outcome-of r vs ps = record { end = r .end; steps = r .taken; state = stands (r .line) vs ps }

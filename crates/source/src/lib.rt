@@ -3,7 +3,7 @@ ghost use mathlib.Core.Path.{_≡_};
 ghost use Prim.Native.Nat.{ℕ, _+_, _-_, _*_, _<_, _≤_};
 ghost use lib.ListN.{length, getD, set};
 ghost use Rattle.source.specs.Answers.{fresh-state};
-ghost use Rattle.source.specs.Lines.{program, Holds, Fits, Entered, Linked, Filled, Ready, Stepped};
+ghost use Rattle.source.specs.Lines.{program, Holds, Fits, Entered, Linked, Filled, Ready, Stepped, Startable, run-at, outcome-of};
 use theory::End;
 use theory::Refusal;
 
@@ -188,4 +188,35 @@ fn step(list: &[u8], targets: &[u16], entries: &[u8], capacity: u32, line: u32, 
         }
         _ => jump(list, targets, entries, line, values, passes),
     }
+}
+
+// Steps until the line after the last, until so many are taken, or until one is full.
+fn walk(
+    list: &[u8],
+    targets: &[u16],
+    entries: &[u8],
+    lines: usize,
+    capacity: u32,
+    from: u32,
+    allowed: u32,
+    values: &mut [u32],
+    passes: &mut [u32],
+) -> Stop
+    requires { ⌜ Startable (now list) (now targets) (now entries) lines from (now values) (now passes) ⌝ }
+    ensures { λ r. ⌜ run-at (now (list .entry)) capacity from (now (values .entry)) (now (passes .entry)) allowed ≡ outcome-of r (now (values .exit)) (now (passes .exit)) ⌝ }
+{
+    let last = lines as u32;
+    let mut line = from;
+    let mut taken = 0;
+    while line <= last {
+        if taken == allowed {
+            return Stop { line, taken, end: End::Spent };
+        }
+        match step(list, targets, entries, capacity, line, values, passes) {
+            Next::At(next) => line = next,
+            Next::Full => return Stop { line, taken, end: End::Full },
+        }
+        taken += 1;
+    }
+    Stop { line, taken, end: End::Halted }
 }

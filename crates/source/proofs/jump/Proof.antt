@@ -57,7 +57,7 @@ returns : tie.Need-returns
 returns c capacity =
     let s : tie.Start = c .before .before .before .before .before .before in
     let r : _ = ready s in
-    loop-past _ (r .holds) capacity _ (r .low) (r .high) _ _ _ _ (r .filled) (c .before .match .keys1) (c .if1 .taken)
+    loop-past _ (r .filled .holds) capacity _ (r .low) (r .high) _ _ _ _ (r .filled) (c .before .match .keys1) (c .if1 .taken)
 
 shared-slice-read-passes : tie.Need-shared-slice-read-passes
 shared-slice-read-passes c =
@@ -110,7 +110,7 @@ returns-2 c capacity =
     let s : tie.Start = c .before .before .before .before .before .before .before .before in
     let e : _ = c .before .before .before .match .keys2 in
     let r : _ = ready s in
-    loop-ends _ (r .holds) capacity _ (r .low) (r .high) _ _ _ _ (r .filled) e (c .if2 .taken) (closed-in r e .0)
+    loop-ends _ (r .filled .holds) capacity _ (r .low) (r .high) _ _ _ _ (r .filled) e (c .if2 .taken) (closed-in r e .0)
 
 sub-passes : tie.Need-sub-passes
 sub-passes c = omega arith
@@ -128,7 +128,7 @@ returns-3 : tie.Need-returns-3
 returns-3 c capacity =
     let s : tie.Start = c .before .before .before .before .before .before in
     let r : _ = ready s in
-    while-past _ (r .holds) capacity _ (r .low) (r .high) _ _ _ _ (r .filled) (c .before .match .keys3) (c .if3 .taken)
+    while-past _ (r .filled .holds) capacity _ (r .low) (r .high) _ _ _ _ (r .filled) (c .before .match .keys3) (c .if3 .taken)
 
 same-length-2 : tie.Need-same-length-2
 same-length-2 c = search needs
@@ -138,7 +138,7 @@ returns-4 c capacity =
     let s : tie.Start = c .before .before .before .before .before .before .before in
     let e : _ = c .before .before .match .keys1 in
     let r : _ = ready s in
-    loop-in _ (r .holds) capacity _ (r .low) (r .high) _ _ _ _ (r .filled) e (c .before .if1 .left) (opened-in r e .0)
+    loop-in _ (r .filled .holds) capacity _ (r .low) (r .high) _ _ _ _ (r .filled) e (c .before .if1 .left) (opened-in r e .0)
 
 same-length-3 : tie.Need-same-length-3
 same-length-3 c = search needs
@@ -148,13 +148,13 @@ returns-5 c capacity =
     let s : tie.Start = c .before .before .before .before .before .before .before .before in
     let e : _ = c .before .before .before .match .keys2 in
     let r : _ = ready s in
-    loop-again _ (r .holds) capacity _ (r .low) (r .high) _ _ _ _ (r .filled) e (c .if2 .left) (closed-in r e .0)
+    loop-again _ (r .filled .holds) capacity _ (r .low) (r .high) _ _ _ _ (r .filled) e (c .if2 .left) (closed-in r e .0)
 
 returns-6 : tie.Need-returns-6
 returns-6 c capacity =
     let s : tie.Start = c .before .before .before .before .before .before in
     let r : _ = ready s in
-    while-in _ (r .holds) capacity _ (r .low) (r .high) _ _ _ _ (r .filled) (c .before .match .keys3) (c .if3 .left)
+    while-in _ (r .filled .holds) capacity _ (r .low) (r .high) _ _ _ _ (r .filled) (c .before .match .keys3) (c .if3 .left)
 
 returns-7 : tie.Need-returns-7
 returns-7 c capacity =
@@ -164,7 +164,7 @@ returns-7 c capacity =
     let other : _ = c .match .rest in
     let last : _ = of-last-kind (s .args .list .now) (s .args .line - 1) (λ e. omega arith) (λ e. omega arith) (λ e. omega arith)
         (other .0 .0 .1) (other .0 .1) (other .1) in
-    while-back _ (r .holds) capacity _ (r .low) (r .high) _ _ _ _ (r .filled) last
+    while-back _ (r .filled .holds) capacity _ (r .low) (r .high) _ _ _ _ (r .filled) last
 
 pub jump-spec : {M : Type 1} → statement M
 jump-spec =

@@ -54,7 +54,7 @@ slice-read-v c = first-in (asked (c .before .before) .pre) .0
 returns : tie.Need-returns
 returns c =
     let r : _ = asked (c .before .before .before) .pre in
-    counts-full _ (r .holds) _ _ (r .low) (r .high) _ _ (c .before .before .match .keys2) (c .if1 .taken)
+    counts-full _ (r .filled .holds) _ _ (r .low) (r .high) _ _ (c .before .before .match .keys2) (c .if1 .taken)
 
 add-values : tie.Need-add-values
 add-values c = search needs
@@ -86,7 +86,7 @@ slice-read-v-2 c = second-in (asked (c .before .before .before) .pre) (c .before
 returns-2 : tie.Need-returns-2
 returns-2 c =
     let r : _ = asked (c .before .before .before .before) .pre in
-    copies-full _ (r .holds) _ _ (r .low) (r .high) _ _ (c .before .before .before .match .keys3) (c .if2 .taken)
+    copies-full _ (r .filled .holds) _ _ (r .low) (r .high) _ _ (c .before .before .before .match .keys3) (c .if2 .taken)
 
 mul-values-3 : tie.Need-mul-values-3
 mul-values-3 c = omega (arith, first-in (asked (c .before .before .before .before) .pre))
@@ -106,7 +106,7 @@ same-length c = search needs
 returns-3 : tie.Need-returns-3
 returns-3 c =
     let r : _ = asked (c .before) .pre in
-    clears _ (r .holds) _ _ (r .low) (r .high) _ _ (c .match .keys1) (first-in r .0)
+    clears _ (r .filled .holds) _ _ (r .low) (r .high) _ _ (c .match .keys1) (first-in r .0)
 
 same-length-2 : tie.Need-same-length-2
 same-length-2 c = search needs
@@ -114,7 +114,7 @@ same-length-2 c = search needs
 returns-4 : tie.Need-returns-4
 returns-4 c =
     let r : _ = asked (c .before .before .before) .pre in
-    counts _ (r .holds) _ _ (r .low) (r .high) _ _ (c .before .before .match .keys2) (first-in r .0) (c .if1 .left)
+    counts _ (r .filled .holds) _ _ (r .low) (r .high) _ _ (c .before .before .match .keys2) (first-in r .0) (c .if1 .left)
 
 same-length-3 : tie.Need-same-length-3
 same-length-3 c = search needs
@@ -122,7 +122,7 @@ same-length-3 c = search needs
 returns-5 : tie.Need-returns-5
 returns-5 c =
     let r : _ = asked (c .before .before .before .before) .pre in
-    copies _ (r .holds) _ _ (r .low) (r .high) _ _ (c .before .before .before .match .keys3) (first-in r .0) (c .if2 .left)
+    copies _ (r .filled .holds) _ _ (r .low) (r .high) _ _ (c .before .before .before .match .keys3) (first-in r .0) (c .if2 .left)
 
 same-length-4 : tie.Need-same-length-4
 same-length-4 c = search needs
