@@ -1,0 +1,4 @@
+pub mod Lists
+pub mod Shift
+pub mod Places
+pub mod Rule10

@@ -1,0 +1,31 @@
+-- What the crate's own functions promise each other: registers laid out in a lent store, a part without its first symbol, one step.
+use mathlib.Core.Path.{_≡_}
+use mathlib.Core.Bool.{Bool, cond}
+use mathlib.Core.List.{List, [], _∷_, _++_}
+use Prim.Native.Nat.{ℕ, suc, _≤_, _*_}
+use lib.ListN.{length, getD, take, drop}
+use Rattle.theory.specs.Basics.{all-below}
+use Rattle.theory.specs.Text.{Bytes}
+use Rattle.theory.specs.Word.{Symbol}
+use Rattle.theory.specs.Machines.{offset, store-of, lengths-of, is-laid}
+
+-- Sizes that index a store without leaving it
+pub record Sized (capacity : ℕ) (store : Bytes) (lengths : List ℕ) : Type 0 where
+  pub room : length store ≡ length lengths * capacity
+  pub registers : length lengths ≤ 64
+  pub symbols : capacity ≤ 1024
+
+-- The first n registers' places are laid out, each with its length
+unfoldable pub places-laid : ℕ → ℕ → Bytes → List ℕ → Bool
+places-laid n capacity store lengths =
+    all-below n λ i. is-laid capacity (getD lengths i 0) (take capacity (drop (offset capacity (suc i)) store))
+
+-- The registers f, one for each length, laid out in a store
+pub record Held (capacity : ℕ) (f : ℕ → List Symbol) (store : Bytes) (lengths : List ℕ) : Type 0 where
+  pub stored : store ≡ store-of capacity (length lengths) f
+  pub counted : lengths ≡ lengths-of (length lengths) f
+  pub fits : (r : ℕ) → length (f r) ≤ capacity
+
+-- The first n bytes of a part, each taken from the next place
+unfoldable pub shifted : ℕ → Bytes → Bytes
+shifted n part = take n (drop 1 part) ++ drop n part
