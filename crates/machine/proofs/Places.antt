@@ -12,6 +12,7 @@ use lib.ListN.{length, take, drop, getD, length-drop}
 use lib.Seq.{length-take-le}
 use Rattle.theory.specs.Basics.{all-below}
 use Rattle.theory.specs.Machines.{is-laid, offset}
+use Rattle.theory.proofs.GoodMemory.{offset-suc}
 use Rattle.machine.specs.Held.{places-laid}
 
 -- The place of register i, counted from 0, lies in a store of k places
@@ -19,9 +20,6 @@ pub place-ends : (i k capacity : ℕ) → i < k → i * capacity + capacity ≤ 
 place-ends i k capacity h =
     let m : suc i * capacity ≤ k * capacity = mul-le-mul-right capacity h in
     omega (arith, suc-mul i capacity)
-
-pub offset-suc : (capacity i : ℕ) → offset capacity (suc i) ≡ i * capacity
-offset-suc capacity i = let e : suc i - 1 ≡ i = omega arith in rw e
 
 and-false : (b : Bool) → (b && false) ≡ false
 and-false true = refl

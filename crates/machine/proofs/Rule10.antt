@@ -1,14 +1,12 @@
 -- Rule 10, one test after the other.
-use mathlib.Core.Path.{_≡_, refl, sym, ap, _∙_}
-use mathlib.Core.Bool.{Bool, true, false}
-use mathlib.Core.List.{List}
-use Prim.Native.Nat.{ℕ, suc, _-_, _*_, _≤_, _<_}
-use native.Mathlib.Omega.{arith}
+use mathlib.Core.Path.{_≡_, sym, _∙_}
+use mathlib.Core.Bool.{false}
+use Prim.Native.Nat.{_*_, _≤_, _<_}
 use borrow.Author.Tests.{le-leb, lt-leb, eq-eqb, ne-eqb}
 use lib.ListN.{length}
 use Rattle.theory.specs.Machines.{Memory, is-memory}
+use Rattle.theory.proofs.GoodMemory.{offset-suc}
 use Rattle.machine.specs.Held.{places-laid}
-use Rattle.machine.proofs.Places.{offset-suc}
 
 module _ (m : Memory) where
   pub no-registers : m .registers < 1 → is-memory m ≡ false
