@@ -7,10 +7,12 @@ ghost use mathlib.Core.List.{List};
 ghost use lib.ListN.{length, set, take, drop, getD};
 ghost use lib.IntN.{ℤ, pos, negℤ, subℕ};
 ghost use Rattle.theory.specs.Basics.{all, all-below};
-ghost use Rattle.theory.specs.Word.{Symbol, byte-of, is-symbol};
+ghost use Rattle.theory.specs.Word.{Symbol, Instruction, byte-of, is-symbol};
+ghost use Rattle.theory.specs.Word as W;
 ghost use Rattle.theory.specs.Machines.{is-laid, is-memory};
 ghost use lib.Dec.{eqb};
 ghost use Rattle.machine.specs.Held.{Sized, Held, Appended, Deleted, places-laid, shifted};
+ghost use Rattle.machine.specs.Steps.{Usable, Performed, Counted, placed, number-of, next-if, by-byte};
 ghost use Rattle.machine.specs.Calls.{memory};
 
 // Where a machine stands: a place, any signed number, and the steps taken so far.
@@ -40,6 +42,15 @@ impl Machine {
     pub const CAPACITY: usize = 1024;
 
     pub const STEPS: u32 = 4294967295;
+}
+
+// Inside a run a place is kept as a number so much higher, so that it never falls below 0.
+const BIAS: u32 = 1000000;
+
+// What one instruction does: it goes to a place, or is full.
+enum Step {
+    To(u32),
+    Full,
 }
 
 // Whether each byte of a part is `1` or `#`.
@@ -184,6 +195,93 @@ fn delete_first(store: &mut [u8], lengths: &mut [u16], capacity: usize, r: usize
     drop_first(&mut store[from..to], n);
     lengths[r] = narrow(n - 1);
     b
+}
+
+// The number of a place that is not negative, else 0.
+fn number(place: i32) -> u32
+    ensures { λ r. ⌜ r ≡ number-of place ⌝ }
+{
+    if place < 0 { 0 } else { place as u32 }
+}
+
+// A place that is a number.
+fn ahead(n: u32) -> i32
+    requires { ⌜ n < 2 ^ 31 ⌝ }
+    ensures { λ r. ⌜ r ≡ pos n ⌝ }
+{
+    n as i32
+}
+
+// A place that is so much below 0.
+fn below(n: u32) -> i32
+    requires { ⌜ n < 2 ^ 31 ⌝ }
+    ensures { λ r. ⌜ r ≡ negℤ (pos n) ⌝ }
+{
+    -(n as i32)
+}
+
+// The place that a run keeps as a number.
+fn place_of(here: u32) -> i32
+    requires { ⌜ here < 2 ^ 31 ⌝ }
+    ensures { λ r. ⌜ r ≡ placed here ⌝ }
+{
+    if BIAS <= here {
+        ahead(here - BIAS)
+    } else {
+        below(BIAS - here)
+    }
+}
+
+// The step after an append.
+fn next_if(room: bool, here: u32) -> Step
+    requires { ⌜ here < 2 ^ 31 ⌝ }
+    ensures { λ r. ⌜ r ≡ next-if room here ⌝ }
+{
+    if room { Step::To(here + 1) } else { Step::Full }
+}
+
+// How far cases go forward after deleting the symbol of byte b, or none.
+fn by_byte(b: u8) -> u32
+    ensures { λ r. ⌜ r ≡ by-byte b ⌝ }
+{
+    match b {
+        0 => 1,
+        49 => 2,
+        _ => 3,
+    }
+}
+
+// Does one instruction, given by its kind and operand, from a place. "The number of # in an instruction, 1 to 5, decides its effect".
+fn perform(
+    store: &mut [u8],
+    lengths: &mut [u16],
+    capacity: usize,
+    kind: u8,
+    operand: u32,
+    here: u32,
+) -> Step
+    requires { ⌜ Sized capacity (now store) (now lengths) × Counted capacity (now lengths) × Usable (length (now lengths)) kind operand
+        × (600000 ≤ here) × (here < 2 ^ 31 - 600000) ⌝ }
+    ensures { λ r. ⌜ ((f : ℕ → List Symbol) (i : Instruction) → W.kind i ≡ kind → W.operand i ≡ operand
+        → Held capacity f (now (store .entry)) (now (lengths .entry))
+        → Performed capacity f here i r (now (store .exit)) (now (lengths .exit))) ⌝ }
+{
+    match kind {
+        1 => next_if(
+            append(store, lengths, capacity, operand as usize - 1, 49),
+            here,
+        ),
+        2 => next_if(
+            append(store, lengths, capacity, operand as usize - 1, 35),
+            here,
+        ),
+        3 => Step::To(here + operand),
+        4 => Step::To(here - operand),
+        _ => {
+            let b = delete_first(store, lengths, capacity, operand as usize - 1);
+            Step::To(here + by_byte(b))
+        }
+    }
 }
 
 fn wide(x: u16) -> usize
