@@ -6,3 +6,6 @@ pub mod Registers
 pub mod OneRegister
 pub mod Signs
 pub mod Steps
+pub mod Instructions
+pub mod Outside
+pub mod Running

@@ -59,6 +59,9 @@ module _ {capacity : ℕ} {f : ℕ → List Symbol} {store lengths : List ℕ} (
     pub held-length : getD lengths i 0 ≡ length (f (suc i))
     held-length = ap (λ (k : List ℕ). getD k i 0) (h .counted) ∙ getD-cells (length lengths) (λ j. length (f (suc j))) 0 i l
 
+    pub held-within : getD lengths i 0 ≤ capacity
+    held-within = rw held-length (h .fits i l)
+
     pub held-place : take capacity (drop (i * capacity) store) ≡ laid capacity (f (suc i))
     held-place =
         ap (λ (s : Bytes). take capacity (drop (i * capacity) s)) (h .stored)

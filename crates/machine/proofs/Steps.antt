@@ -83,15 +83,16 @@ module _ (capacity : ℕ) (f : ℕ → List Symbol) (here : ℕ) (store lengths 
   pub did-append : (r : ℕ) (x : Symbol) (room : Bool) → Appended capacity f r x room store lengths
       → Performed capacity f here (append x (suc r)) (next-if room here) store lengths
   did-append r x true h =
-      (put f (suc r) (f (suc r) ++ (x ∷ [])), rw (le-leb (suc (length (f (suc r)))) capacity (h .0), place-forward here 1), h .1)
+      (put f (suc r) (f (suc r) ++ (x ∷ [])), rw (le-leb (suc (length (f (suc r)))) capacity (h .0), place-forward here 1), h .1, omega arith)
   did-append r x false h = (rw (lt-leb (suc (length (f (suc r)))) capacity (omega (arith, h .0))), h .1)
 
-  pub did-forward : (n : ℕ) → Held capacity f store lengths → Performed capacity f here (forward n) (To (here + n)) store lengths
-  did-forward n h = (f, rw (place-forward here n), h)
+  pub did-forward : (n : ℕ) → n ≤ 600000 → Held capacity f store lengths
+      → Performed capacity f here (forward n) (To (here + n)) store lengths
+  did-forward n l h = (f, rw (place-forward here n), h, omega arith)
 
   pub did-backward : (n : ℕ) → n ≤ here → Held capacity f store lengths
       → Performed capacity f here (backward n) (To (here - n)) store lengths
-  did-backward n l h = (f, rw (place-backward here n l), h)
+  did-backward n l h = (f, rw (place-backward here n l), h, omega arith)
 
   pub did-cases : (r b : ℕ) → Deleted capacity f r (f (suc r)) b store lengths
       → Performed capacity f here (cases (suc r)) (To (here + by-byte b)) store lengths
@@ -99,6 +100,6 @@ module _ (capacity : ℕ) (f : ℕ → List Symbol) (here : ℕ) (store lengths 
     where
       go : (ys : List Symbol) → f (suc r) ≡ ys → Deleted capacity f r ys b store lengths
           → Performed capacity f here (cases (suc r)) (To (here + by-byte b)) store lengths
-      go [] e h = rw (h .0) (f, rw (e, place-forward here 1), h .1)
-      go (one ∷ xs) e h = rw (h .0) (put f (suc r) xs, rw (e, place-forward here 2), h .1)
-      go (hash ∷ xs) e h = rw (h .0) (put f (suc r) xs, rw (e, place-forward here 3), h .1)
+      go [] e h = rw (h .0) (f, rw (e, place-forward here 1), h .1, omega arith)
+      go (one ∷ xs) e h = rw (h .0) (put f (suc r) xs, rw (e, place-forward here 2), h .1, omega arith)
+      go (hash ∷ xs) e h = rw (h .0) (put f (suc r) xs, rw (e, place-forward here 3), h .1, omega arith)

@@ -39,6 +39,18 @@ pub record Usable (registers kind operand : ℕ) : Type 0 where
   pub small : operand ≤ 600000
   pub named : names-register kind ≡ true → operand ≤ registers
 
+-- The instructions of two lists of numbers can all be done
+pub record Usables (registers : ℕ) (kinds operands : List ℕ) : Type 0 where
+  pub paired : length kinds ≡ length operands
+  pub count : length kinds ≤ 8192
+  pub each : (i : ℕ) → i < length kinds → Usable registers (getD kinds i 0) (getD operands i 0)
+
+-- The table of two lists of numbers
+unfoldable pub zipped : List ℕ → List ℕ → List Entry
+zipped [] ns = []
+zipped (k ∷ ks) [] = []
+zipped (k ∷ ks) (n ∷ ns) = record { kind = k; operand = n } ∷ zipped ks ns
+
 -- No length is above the capacity
 abbrev pub Counted : ℕ → List ℕ → Type 0
 Counted capacity lengths = (i : ℕ) → i < length lengths → getD lengths i 0 ≤ capacity
@@ -47,6 +59,7 @@ Counted capacity lengths = (i : ℕ) → i < length lengths → getD lengths i 0
 abbrev pub Performed : ℕ → (ℕ → List Symbol) → ℕ → Instruction → Step → Bytes → List ℕ → Type 0
 Performed capacity f here i (To there) store lengths =
     (g : ℕ → List Symbol) × (perform (within capacity) (state here f) i ≡ some (state there g)) × Held capacity g store lengths
+    × (there ≤ here + 600000)
 Performed capacity f here i Full store lengths = (perform (within capacity) (state here f) i ≡ none) × Held capacity f store lengths
 
 -- After an append, where there was room

@@ -11,8 +11,10 @@ ghost use Rattle.theory.specs.Word.{Symbol, Instruction, byte-of, is-symbol};
 ghost use Rattle.theory.specs.Word as W;
 ghost use Rattle.theory.specs.Machines.{is-laid, is-memory};
 ghost use lib.Dec.{eqb};
+ghost use mathlib.Core.Bool.{true};
 ghost use Rattle.machine.specs.Held.{Sized, Held, Appended, Deleted, places-laid, shifted};
-ghost use Rattle.machine.specs.Steps.{Usable, Performed, Counted, placed, number-of, next-if, by-byte};
+ghost use Rattle.machine.specs.Steps.{Usable, Usables, Performed, Counted, bias, placed, number-of, next-if, by-byte};
+ghost use Rattle.machine.specs.Inside.{Allowance, Stopped, lent, end-past, run-from};
 ghost use Rattle.machine.specs.Calls.{memory};
 
 // Where a machine stands: a place, any signed number, and the steps taken so far.
@@ -51,6 +53,13 @@ const BIAS: u32 = 1000000;
 enum Step {
     To(u32),
     Full,
+}
+
+// Where a run inside stopped, how, and after how many steps.
+struct Stop {
+    end: End,
+    steps: u32,
+    here: u32,
 }
 
 // Whether each byte of a part is `1` or `#`.
@@ -281,6 +290,84 @@ fn perform(
             let b = delete_first(store, lengths, capacity, operand as usize - 1);
             Step::To(here + by_byte(b))
         }
+    }
+}
+
+// How many steps a run may do: the budget, or what its count has left.
+fn allowance(budget: u32, steps: u32) -> u32
+    ensures { λ r. ⌜ Allowance budget steps r ⌝ }
+{
+    let left = Machine::STEPS - steps;
+    if budget <= left { budget } else { left }
+}
+
+// How a run has ended that stands past the last instruction.
+fn end_past(here: u32, last: u32) -> End
+    requires { ⌜ last < 2 ^ 31 ⌝ }
+    ensures { λ r. ⌜ r ≡ end-past here last ⌝ }
+{
+    if here == last + 1 {
+        End::Halted
+    } else {
+        End::Strayed
+    }
+}
+
+// A run from a place of the instructions, or right behind them. "Checked before each step: halted or strayed, then spent, then full".
+fn run_inside(
+    store: &mut [u8],
+    lengths: &mut [u16],
+    capacity: usize,
+    kinds: &[u8],
+    operands: &[u32],
+    from: u32,
+    steps: u32,
+    budget: u32,
+) -> Stop
+    requires { ⌜ (is-memory (lent capacity (now store) (now lengths)) ≡ true) × Usables (length (now lengths)) (now kinds) (now operands)
+        × (from ≤ bias + length (now kinds) + 1) ⌝ }
+    ensures { λ r. ⌜ Stopped capacity
+        (run-from (now (kinds .entry)) (now (operands .entry)) (lent capacity (now (store .entry)) (now (lengths .entry))) from steps budget)
+        r (now (store .exit)) (now (lengths .exit)) ⌝ }
+{
+    let last = BIAS + kinds.len() as u32;
+    let allowed = allowance(budget, steps);
+    let mut here = from;
+    let mut k: u32 = 0;
+    while BIAS < here {
+        if last < here {
+            return Stop {
+                end: end_past(here, last),
+                steps: k,
+                here,
+            };
+        }
+        if k == allowed {
+            return Stop {
+                end: End::Spent,
+                steps: k,
+                here,
+            };
+        }
+        let i = (here - BIAS - 1) as usize;
+        match perform(store, lengths, capacity, kinds[i], operands[i], here) {
+            Step::To(there) => {
+                here = there;
+            }
+            Step::Full => {
+                return Stop {
+                    end: End::Full,
+                    steps: k,
+                    here,
+                };
+            }
+        }
+        k += 1;
+    }
+    Stop {
+        end: End::Strayed,
+        steps: k,
+        here,
     }
 }
 

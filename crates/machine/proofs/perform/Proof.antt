@@ -99,7 +99,7 @@ returns-2 c f i k o h =
 returns-3 : tie.Need-returns-3
 returns-3 c f i k o h =
     let a = c .before .before .before .args in
-    rw (is-forward i (k ∙ c .match .keys3) o) (did-forward (a .capacity) f (a .here) _ _ (a .operand) h)
+    rw (is-forward i (k ∙ c .match .keys3) o) (did-forward (a .capacity) f (a .here) _ _ (a .operand) (c .before .before .before .pre .2 .small) h)
 
 returns-4 : tie.Need-returns-4
 returns-4 c f i k o h =
