@@ -9,3 +9,4 @@ pub mod Steps
 pub mod Instructions
 pub mod Outside
 pub mod Running
+pub mod Rule15

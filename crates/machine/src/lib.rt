@@ -13,7 +13,9 @@ ghost use Rattle.theory.specs.Machines.{is-laid, is-memory};
 ghost use lib.Dec.{eqb};
 ghost use mathlib.Core.Bool.{true};
 ghost use Rattle.machine.specs.Held.{Sized, Held, Appended, Deleted, places-laid, shifted};
-ghost use Rattle.machine.specs.Steps.{Usable, Usables, Performed, Counted, bias, placed, number-of, next-if, by-byte};
+ghost use Rattle.machine.specs.Steps.{Usable, Usables, Performed, Counted, bias, zipped, placed, number-of, next-if, by-byte};
+ghost use Rattle.theory.specs.TurnedDown.{total};
+ghost use Rattle.machine.specs.Lacking.{lacking, first-lacking, lack-of};
 ghost use Rattle.machine.specs.Inside.{Allowance, Stopped, lent, end-past, run-from};
 ghost use Rattle.machine.specs.Calls.{memory};
 
@@ -60,6 +62,12 @@ struct Stop {
     end: End,
     steps: u32,
     here: u32,
+}
+
+// The first instruction that a machine cannot do, if there is one.
+enum Lack {
+    At(usize),
+    Nothing,
 }
 
 // Whether each byte of a part is `1` or `#`.
@@ -369,6 +377,48 @@ fn run_inside(
         steps: k,
         here,
     }
+}
+
+// Whether an instruction names a register that a machine of so many registers lacks.
+fn lacks(registers: usize, kind: u8, operand: u32) -> bool
+    ensures { λ r. ⌜ r ≡ lacking registers kind operand ⌝ }
+{
+    if kind < 3 {
+        return registers < operand as usize;
+    }
+    if kind == 5 {
+        return registers < operand as usize;
+    }
+    false
+}
+
+// Rule 15: the first instruction that names a register the machine lacks.
+fn first_lacking(registers: usize, kinds: &[u8], operands: &[u32]) -> Lack
+    requires { ⌜ length (now kinds) ≡ length (now operands) ⌝ }
+    ensures { λ r. ⌜ r ≡ lack-of (first-lacking registers (zipped (now (kinds .entry)) (now (operands .entry)))) ⌝ }
+{
+    let mut i: usize = 0;
+    while i < kinds.len() {
+        if lacks(registers, kinds[i], operands[i]) {
+            return Lack::At(i);
+        }
+        i += 1;
+    }
+    Lack::Nothing
+}
+
+// Where instruction n starts in the word, counted from 0: all symbols of those before it.
+fn start_of(kinds: &[u8], operands: &[u32], n: usize) -> usize
+    requires { ⌜ (length (now kinds) ≡ length (now operands)) × (n ≤ length (now kinds)) × (length (now kinds) ≤ 8192) ⌝ }
+    ensures { λ r. ⌜ r ≡ total (take n (zipped (now (kinds .entry)) (now (operands .entry)))) ⌝ }
+{
+    let mut i: usize = 0;
+    let mut start: usize = 0;
+    while i < n {
+        start += operands[i] as usize + kinds[i] as usize;
+        i += 1;
+    }
+    start
 }
 
 fn wide(x: u16) -> usize
