@@ -10,3 +10,4 @@ pub mod Instructions
 pub mod Outside
 pub mod Running
 pub mod Rule15
+pub mod Whole

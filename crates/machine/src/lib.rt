@@ -14,10 +14,10 @@ ghost use lib.Dec.{eqb};
 ghost use mathlib.Core.Bool.{true};
 ghost use Rattle.machine.specs.Held.{Sized, Held, Appended, Deleted, places-laid, shifted};
 ghost use Rattle.machine.specs.Steps.{Usable, Usables, Performed, Counted, bias, zipped, placed, number-of, next-if, by-byte};
-ghost use Rattle.theory.specs.TurnedDown.{total};
+ghost use Rattle.theory.specs.TurnedDown.{done, total};
 ghost use Rattle.machine.specs.Lacking.{lacking, first-lacking, lack-of};
 ghost use Rattle.machine.specs.Inside.{Allowance, Stopped, lent, end-past, run-from};
-ghost use Rattle.machine.specs.Calls.{memory};
+ghost use Rattle.machine.specs.Calls.{memory, handed, called, stands-outside};
 
 // Where a machine stands: a place, any signed number, and the steps taken so far.
 pub struct Position {
@@ -32,6 +32,18 @@ impl Position {
     {
         Position { place: 1, steps: 0 }
     }
+}
+
+// How a run ended, and the steps taken; or why it was turned down.
+pub enum Ended {
+    Ran(End, u32),
+    Refused(Refusal),
+}
+
+// What a run hands back: where the machine stands then, and how it ended.
+pub struct Run {
+    pub position: Position,
+    pub ended: Ended,
 }
 
 // A machine of the set: how many registers it has, and how many symbols each may hold.
@@ -419,6 +431,61 @@ fn start_of(kinds: &[u8], operands: &[u32], n: usize) -> usize
         i += 1;
     }
     start
+}
+
+// A run that does no step, since it stands outside.
+fn strayed(at: Position) -> Run
+    ensures { λ r. ⌜ r ≡ stands-outside at ⌝ }
+{
+    Run {
+        position: at,
+        ended: Ended::Ran(End::Strayed, 0),
+    }
+}
+
+// A run of instructions that the machine can do.
+fn run_numbers(
+    m: Machine,
+    store: &mut [u8],
+    lengths: &mut [u16],
+    at: Position,
+    kinds: &[u8],
+    operands: &[u32],
+    budget: u32,
+) -> Run
+    requires { ⌜ (is-memory (memory m (now store) (now lengths)) ≡ true) × Usables (m .registers) (now kinds) (now operands) ⌝ }
+    ensures { λ r. ⌜ handed r (now (store .exit)) (now (lengths .exit))
+        ≡ called (memory m (now (store .entry)) (now (lengths .entry))) at budget (done (zipped (now (kinds .entry)) (now (operands .entry)))) ⌝ }
+{
+    let place = at.place;
+    let steps = at.steps;
+    let n = number(place);
+    if n < 1 {
+        return strayed(at);
+    }
+    if kinds.len() as u32 + 1 < n {
+        return strayed(at);
+    }
+    let s = run_inside(
+        store,
+        lengths,
+        m.capacity,
+        kinds,
+        operands,
+        BIAS + n,
+        steps,
+        budget,
+    );
+    let end = s.end;
+    let taken = s.steps;
+    let there = place_of(s.here);
+    Run {
+        position: Position {
+            place: there,
+            steps: steps + taken,
+        },
+        ended: Ended::Ran(end, taken),
+    }
 }
 
 fn wide(x: u16) -> usize
