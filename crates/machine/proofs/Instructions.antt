@@ -1,35 +1,25 @@
 -- Instructions as numbers: each entry that can be done is an instruction, and the word has one for each.
-use mathlib.Core.Path.{_≡_, refl, ap, _∙_}
-use mathlib.Core.Option.{Option, none, some}
-use mathlib.Core.List.{List, [], _∷_, map}
-use Prim.Native.Nat.{ℕ, zero, suc, _≤_, _<_}
+use mathlib.Core.Path.{_≡_, refl, ap}
+use mathlib.Core.Option.{Option, some}
+use mathlib.Core.List.{List, [], _∷_}
+use Prim.Native.Nat.{ℕ, zero, suc, _<_}
 use native.Mathlib.Omega.{arith}
-use borrow.Author.Tests.{ne-eqb}
 use lib.ListN.{length, getD, getElem?}
-use Rattle.theory.specs.Basics.{present}
 use Rattle.theory.specs.Word as W
-use Rattle.theory.specs.Word.{Entry, Instruction, append, one, hash, forward, backward, cases, instruction-of, instruction-of-kind}
+use Rattle.theory.specs.Word.{Entry, Instruction, instruction-of}
 use Rattle.theory.specs.TurnedDown.{instructions}
-use Rattle.machine.specs.Steps.{Usable, zipped}
+use Rattle.theory.proofs.Words.{instruction-formed}
+use Rattle.word.specs.Answers.{zipped}
+use Rattle.machine.specs.Steps.{Usable}
 
 -- An instruction of these numbers
 abbrev pub Spelt : ℕ → ℕ → Option Instruction → Type 0
 Spelt k n o = (i : Instruction) × (o ≡ some i) × (W.kind i ≡ k) × (W.operand i ≡ n)
 
-by-kind : (k n : ℕ) → 1 ≤ k → k ≤ 5 → Spelt k n (instruction-of-kind k n)
-by-kind zero n a b = absurd (omega arith)
-by-kind (suc zero) n a b = (append one n, refl, refl, refl)
-by-kind (suc (suc zero)) n a b = (append hash n, refl, refl, refl)
-by-kind (suc (suc (suc zero))) n a b = (forward n, refl, refl, refl)
-by-kind (suc (suc (suc (suc zero)))) n a b = (backward n, refl, refl, refl)
-by-kind (suc (suc (suc (suc (suc zero))))) n a b = (cases n, refl, refl, refl)
-by-kind (suc (suc (suc (suc (suc (suc k)))))) n a b = absurd (omega arith)
-
 usable-is : (registers k n : ℕ) → Usable registers k n → Spelt k n (instruction-of (record { kind = k; operand = n }))
-unfolding instruction-of
 usable-is registers k n u =
-    let some-operand : n ≡ 0 → ⊥ = λ z. omega (arith, u .some) in
-    rw (ne-eqb n 0 some-operand) (by-kind k n (u .first) (u .last))
+    let (i, is, same) = instruction-formed (record { kind = k; operand = n }) (record { operand = u .some; kind = u .first; at-most = u .last }) in
+    (i, is, ap (λ (e : Entry). e .kind) same, ap (λ (e : Entry). e .operand) same)
 
 module _ (registers : ℕ) where
   -- each entry of the two lists can be done
@@ -43,7 +33,8 @@ module _ (registers : ℕ) where
   pub instructions-length : (ks ns : List ℕ) → length ks ≡ length ns
       → ((i : ℕ) → i < length ks → Usable registers (getD ks i 0) (getD ns i 0)) → length (instructions (zipped ks ns)) ≡ length ks
   unfolding zipped Each
-  instructions-length [] ns e h = refl
+  instructions-length [] [] e h = refl
+  instructions-length [] (n ∷ ns) e h = absurd (omega arith)
   instructions-length (k ∷ ks) [] e h = absurd (omega arith)
   instructions-length (k ∷ ks) (n ∷ ns) e h =
       let (i, same, _, _) = usable-is registers k n (h 0 (omega arith)) in

@@ -9,7 +9,7 @@ use native.Mathlib.Omega.{arith}
 use lib.ListN.{length, take, drop, getD, drop-of-length-le}
 use Rattle.theory.specs.Word.{Entry}
 use Rattle.theory.specs.TurnedDown.{lacks, first-entry, total}
-use Rattle.machine.specs.Steps.{zipped}
+use Rattle.word.specs.Answers.{zipped}
 use Rattle.machine.specs.Lacking.{lacking}
 
 entry : List ℕ → List ℕ → ℕ → Entry
@@ -17,7 +17,8 @@ entry ks ns i = record { kind = getD ks i 0; operand = getD ns i 0 }
 
 pub zipped-length : (ks ns : List ℕ) → length ks ≡ length ns → length (zipped ks ns) ≡ length ks
 unfolding zipped
-zipped-length [] ns e = refl
+zipped-length [] [] e = refl
+zipped-length [] (n ∷ ns) e = absurd (omega arith)
 zipped-length (k ∷ ks) [] e = absurd (omega arith)
 zipped-length (k ∷ ks) (n ∷ ns) e = ap suc (zipped-length ks ns (omega arith))
 

@@ -22,7 +22,8 @@ use Rattle.theory.proofs.Faults.{and-second}
 use Rattle.theory.proofs.GoodMemory.{memory-is-good, contents-fit, contents-stored, contents-counted}
 use Rattle.machine.specs.declared.Step.the-variants as Step
 use Rattle.machine.specs.Held.{Held}
-use Rattle.machine.specs.Steps.{Usables, Performed, bias, zipped, placed, state}
+use Rattle.word.specs.Answers.{zipped}
+use Rattle.machine.specs.Steps.{Usables, Performed, bias, placed, state}
 use Rattle.machine.specs.Inside.{Allowance, Stopped, lent, machine-of, run-from}
 use Rattle.machine.proofs.Instructions.{Spelt, instructions-length, instructions-at}
 use Rattle.machine.proofs.Outside.{inside-going, fetch-inside}

@@ -23,7 +23,8 @@ use Rattle.machine.specs.declared.Position.{Position}
 use Rattle.machine.specs.declared.Run.{Run}
 use Rattle.machine.specs.declared.Stop.{Stop}
 use Rattle.machine.specs.declared.Ended.the-variants.{Ran}
-use Rattle.machine.specs.Steps.{Usables, bias, number-of, placed, zipped}
+use Rattle.word.specs.Answers.{zipped}
+use Rattle.machine.specs.Steps.{Usables, bias, number-of, placed}
 use Rattle.machine.specs.Inside.{Stopped, lent, run-from}
 use Rattle.machine.specs.Calls.{Called, memory, position, handed, ran, stands-outside}
 use Rattle.machine.proofs.Instructions.{instructions-length}

@@ -16,7 +16,8 @@ use Rattle.theory.specs.declared.End.{End}
 use Rattle.theory.specs.declared.End.the-variants.{Halted, Strayed}
 use Rattle.machine.specs.declared.Stop.{Stop}
 use Rattle.machine.specs.Held.{Held}
-use Rattle.machine.specs.Steps.{zipped, placed, state}
+use Rattle.word.specs.Answers.{zipped}
+use Rattle.machine.specs.Steps.{placed, state}
 
 -- How many steps a run may do: no more than its budget, and than its count has left; and it is one of the two
 pub record Allowance (budget steps allowed : ℕ) : Type 0 where

@@ -2,7 +2,7 @@
 use mathlib.Core.Path.{_≡_}
 use mathlib.Core.Bool.{Bool, true, false, cond}
 use mathlib.Core.Option.{Option, none, some}
-use mathlib.Core.List.{List, [], _∷_}
+use mathlib.Core.List.{List}
 use Prim.Native.Nat.{ℕ, suc, _+_, _≤_, _<_}
 use lib.Dec.{eqb}
 use lib.IntN.{ℤ, pos, negsuc, subℕ}
@@ -10,7 +10,7 @@ use lib.ListN.{length, getD}
 use Rattle.theory.specs.Text.{Bytes}
 use Rattle.theory.specs.Runs.{within}
 use Rattle.theory.specs.Word as W
-use Rattle.theory.specs.Word.{Symbol, Entry, Instruction, perform}
+use Rattle.theory.specs.Word.{Symbol, Instruction, perform}
 use Rattle.theory.specs.TurnedDown.{names-register}
 use Rattle.machine.specs.declared.Step.{Step}
 use Rattle.machine.specs.declared.Step.the-variants.{To, Full}
@@ -44,12 +44,6 @@ pub record Usables (registers : ℕ) (kinds operands : List ℕ) : Type 0 where
   pub paired : length kinds ≡ length operands
   pub count : length kinds ≤ 8192
   pub each : (i : ℕ) → i < length kinds → Usable registers (getD kinds i 0) (getD operands i 0)
-
--- The table of two lists of numbers
-unfoldable pub zipped : List ℕ → List ℕ → List Entry
-zipped [] ns = []
-zipped (k ∷ ks) [] = []
-zipped (k ∷ ks) (n ∷ ns) = record { kind = k; operand = n } ∷ zipped ks ns
 
 -- No length is above the capacity
 abbrev pub Counted : ℕ → List ℕ → Type 0

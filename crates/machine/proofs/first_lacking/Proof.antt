@@ -2,7 +2,7 @@ use mathlib.Core.Path.{_≡_, refl, sym, ap, _∙_}
 use Prim.Native.Nat.{_-_, _≤_}
 use lib.ListN.{length, drop}
 use Rattle.theory.specs.TurnedDown.{lacks, first-entry}
-use Rattle.machine.specs.Steps.{zipped}
+use Rattle.word.specs.Answers.{zipped}
 use Rattle.machine.specs.Lacking.{first-lacking, lack-of}
 use Rattle.machine.proofs.Rule15.{lack-here, lack-later, lack-none}
 use borrow.Author.Needs.{needs}

@@ -9,7 +9,8 @@ use Rattle.theory.specs.Runs.{Outcome}
 use Rattle.theory.specs.Word.{State}
 use Rattle.theory.specs.Machines.{run-word}
 use Rattle.theory.specs.TurnedDown.{instructions}
-use Rattle.machine.specs.Steps.{bias, number-of, zipped}
+use Rattle.word.specs.Answers.{zipped}
+use Rattle.machine.specs.Steps.{bias, number-of}
 use Rattle.machine.specs.Inside.{Stopped, lent, run-from}
 use Rattle.machine.specs.Calls.{memory, position}
 use Rattle.machine.proofs.Whole.{outside-low, outside-high, lent-count, lent-good, whole-outside, whole-is, whole-count, whole-stopped}

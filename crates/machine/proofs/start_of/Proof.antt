@@ -4,7 +4,7 @@ use native.Mathlib.Omega.{arith}
 use native.Mathlib.Numerals.{add-one}
 use lib.ListN.{take, getD}
 use Rattle.theory.specs.TurnedDown.{total}
-use Rattle.machine.specs.Steps.{zipped}
+use Rattle.word.specs.Answers.{zipped}
 use Rattle.machine.proofs.Rule15.{total-more}
 use borrow.Author.Needs.{needs}
 use Rattle.machine.proofs.start_of.Statement.{statement}
