@@ -2,10 +2,12 @@
 use mathlib.Core.Path.{_≡_}
 use mathlib.Core.List.{List, [], _∷_, map}
 use Prim.Native.Nat.{ℕ}
-use lib.ListN.{length}
+use lib.ListN.{length, replicate}
+use Rattle.theory.specs.Limits
 use Rattle.theory.specs.Basics.{or-else}
 use Rattle.theory.specs.Word.{Entry, spell-entries, bytes-of}
 use Rattle.theory.specs.TurnedDown.{Answer, done, refused, answer, after, mapped, read-word, read-table, rule-19, lend, lent-after}
+use Rattle.word.specs.declared.answers.Gathered.{Gathered}
 use Rattle.word.specs.declared.answers.Instruction.{Instruction}
 use Rattle.word.specs.declared.answers.Read.{Read}
 use Rattle.word.specs.declared.answers.Read.the-variants as R
@@ -62,9 +64,25 @@ ReadsInto word kinds operands r kinds′ operands′ =
     × (kinds′ ≡ lent-after kinds (mapped kinds-of (read-into kinds operands word)))
     × (operands′ ≡ lent-after operands (mapped operands-of (read-into kinds operands word)))
 
+-- A word read into a lent table of records: rules 11 to 14, then 19
+abbrev pub ReadsTable : (word : List ℕ) (table : List Instruction) → Read → (table′ : List Instruction) → Type 0
+ReadsTable word table r table′ =
+    (r ≡ read-answer (lend table (read-word word))) × (table′ ≡ lent-after table (mapped records-of (lend table (read-word word))))
+
 -- A table written as a word into a lent list of bytes: rules 11, 13 and 14 as for tables, then 19
 unfoldable pub write-into : List ℕ → List Entry → Answer (List ℕ)
 write-into word t = lend word (mapped (λ t′. bytes-of (spell-entries t′)) (read-table t))
 
 abbrev pub WritesInto : (table : List Entry) (word : List ℕ) → Written → (word′ : List ℕ) → Type 0
 WritesInto table word r word′ = (r ≡ written-answer (write-into word table)) × (word′ ≡ lent-after word (write-into word table))
+
+-- A table as numbers, with room for as many instructions as a word may have: rules 11, 13 and 14 as for tables
+abbrev pub no-numbers : List ℕ
+no-numbers = replicate Limits.most-instructions 0
+
+unfoldable pub gathered : List Entry → Gathered
+gathered t = record {
+  kinds = lent-after no-numbers (mapped kinds-of (read-table t));
+  operands = lent-after no-numbers (mapped operands-of (read-table t));
+  answer = read-answer (read-table t);
+}

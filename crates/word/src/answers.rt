@@ -28,6 +28,14 @@ pub enum Written {
     Refused(Refusal),
 }
 
+// A table of records as numbers: its kinds and operands with 0s after them, and the number of its instructions; 0s alone, and why, where it is turned
+// down.
+pub struct Gathered {
+    pub kinds: [u8; 8192],
+    pub operands: [u32; 8192],
+    pub answer: Read,
+}
+
 // The refusal of a rule at a place.
 pub fn refused(number: u32, place: usize) -> Read
     ensures { λ r. ⌜ r ≡ Read.Refused (record { number = number; place = place }) ⌝ }

@@ -1,9 +1,9 @@
 // Words and instruction tables. Reading a word fills a lent table, and writing spells a table into a lent word. A table is two slices of numbers,
-// kinds and operands, or one slice of records.
 mod answers;
 mod reading;
 mod writing;
 
+pub use answers::Gathered;
 pub use answers::Instruction;
 pub use answers::Read;
 pub use answers::Written;

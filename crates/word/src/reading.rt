@@ -10,10 +10,10 @@ use crate::answers::Read;
 use crate::answers::refused;
 
 // An instruction of a word, and where the next one starts. Kind 0 stands for a number of # that is none of 1 to 5.
-struct Item {
-    kind: u8,
-    operand: u32,
-    next: usize,
+pub struct Item {
+    pub kind: u8,
+    pub operand: u32,
+    pub next: usize,
 }
 
 // Where the run of `byte` that starts at `at` ends.
@@ -61,7 +61,7 @@ fn kind_of(hashes: usize) -> u8
 }
 
 // The item that starts at `at`.
-fn item_at(word: &[u8], at: usize) -> Item
+pub fn item_at(word: &[u8], at: usize) -> Item
     requires { ⌜ (at ≤ length (now word)) × (length (now word) ≤ 600000) ⌝ }
     ensures { λ r. ⌜ r ≡ item-at (now (word .entry)) at ⌝ }
 {
@@ -121,7 +121,7 @@ fn scan(word: &[u8]) -> Read
 }
 
 // Rules 11 to 14.
-fn measure(word: &[u8]) -> Read
+pub fn measure(word: &[u8]) -> Read
     ensures { λ r. ⌜ r ≡ read-answer (read-word (now (word .entry))) ⌝ }
 {
     if word.len() == 0 {

@@ -15,10 +15,10 @@ use theory::Refusal;
 
 // What is counted of a table's first entries: their symbols, or one more than a word may have; how many are good before the first bad one; how many
 // there are.
-struct Tally {
-    size: usize,
-    good: usize,
-    count: usize,
+pub struct Tally {
+    pub size: usize,
+    pub good: usize,
+    pub count: usize,
 }
 
 // A sum of symbols, as a tally has it: it cannot wrap.
@@ -45,7 +45,7 @@ fn is_instruction(kind: u8, operand: u32) -> bool
 }
 
 // The tally with one entry more.
-fn with_entry(t: Tally, kind: u8, operand: u32) -> Tally
+pub fn with_entry(t: Tally, kind: u8, operand: u32) -> Tally
     requires { ⌜ (t .size ≤ 600001) × (t .count < 18446744073709551615) ⌝ }
     ensures { λ r. ⌜ r ≡ noted t (record { kind = kind; operand = operand }) ⌝ }
 {
@@ -66,7 +66,7 @@ fn with_entry(t: Tally, kind: u8, operand: u32) -> Tally
 }
 
 // The answer for a table: rules 11, 13 and 14.
-fn judge(t: Tally) -> Read
+pub fn judge(t: Tally) -> Read
     ensures { λ r. ⌜ r ≡ judged t ⌝ }
 {
     let count = t.count;
