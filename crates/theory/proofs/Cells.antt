@@ -2,7 +2,7 @@
 use mathlib.Core.Path.{_≡_, refl, sym, ap, _∙_, subst, fun-ext}
 use mathlib.Core.Logic.{_≢_}
 use mathlib.Core.Bool.{Bool, true, false, cond}
-use mathlib.Core.Option.{Option, none, some, Option·none-ne-some}
+use mathlib.Core.Option.{some, Option·none-ne-some}
 use mathlib.Core.List.{List, [], _∷_, _++_}
 use Prim.Native.Nat.{ℕ, zero, suc, _+_, _≤_, _<_}
 use native.Mathlib.Nat.{add-zero, add-suc, suc-add}
@@ -94,8 +94,3 @@ getElem-there (a ∷ l) (suc n) h = getElem-there l n (omega arith)
 pub at-there : {A : Type 0} (l : List A) (n : ℕ) → 0 < n → n ≤ length l → (a : A) × (at l n ≡ some a)
 at-there l zero h g = absurd (omega arith)
 at-there l (suc n) h g = getElem-there l n (omega arith)
-
--- and nothing just past it
-pub at-past : {A : Type 0} (l : List A) → at l (suc (length l)) ≡ none
-at-past [] = refl
-at-past (a ∷ l) = at-past l

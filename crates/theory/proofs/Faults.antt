@@ -1,7 +1,7 @@
 -- What it says that a rule turns nothing down: laws of the answers and tests that the rules are written with.
 use mathlib.Core.Path.{_≡_, refl}
 use mathlib.Core.Bool.{Bool, true, false, _&&_, _||_}
-use mathlib.Core.Option.{Option, none, some}
+use mathlib.Core.Option.{Option, none, some, Option·none-ne-some}
 use Prim.Native.Nat.{ℕ}
 use Rattle.theory.specs.Basics.{given, or-else, and-then}
 use Rattle.theory.specs.TurnedDown.{unless, refuse, done, answer}
@@ -18,6 +18,11 @@ module _ {A : Type 0} where
 
   pub neither : (x y : Option A) → x ≡ none → y ≡ none → or-else x y ≡ none
   neither x y g h = rw (g, h)
+
+  pub and-then-some : {B : Type 0} (x : Option A) (f : A → Option B) (b : B)
+      → and-then x f ≡ some b → (a : A) × (x ≡ some a) × (f a ≡ some b)
+  and-then-some none f b h = absurd (Option·none-ne-some b h)
+  and-then-some (some a) f b h = (a, refl, h)
 
   pub given-none : (t : Bool) (a : A) → given t a ≡ none → t ≡ false
   given-none true a h = cc

@@ -1,23 +1,31 @@
 -- The layout of a machine's memory: what is laid down is read back, and what is read is laid down again. A run keeps a memory laid out.
-use mathlib.Core.Path.{_≡_, refl, sym, ap, ap₂, _∙_}
+use mathlib.Core.Path.{_≡_, refl, sym, ap, ap₂, _∙_, subst}
 use mathlib.Core.Logic.{_≢_}
 use mathlib.Core.Bool.{Bool, true, false, cond, _&&_, false≢true}
+use mathlib.Core.Option.{Option, none, some, Option·none-ne-some, Option·some-injective}
 use mathlib.Core.List.{List, [], _∷_, _++_, map}
 use Prim.Native.Nat.{ℕ, zero, suc, _+_, _-_, _*_, _≤_, _<_}
 use native.Mathlib.Nat.{suc-mul, mul-le-mul-right, suc-sub-suc, sub-zero, zero-mul}
 use native.Mathlib.Omega.{arith}
-use lib.ListN.{length, getD, take, drop, replicate, length-append, length-map, length-replicate, length-take, length-drop}
+use lib.IntN.{ℤ, pos, negsuc}
+use lib.ListN.{length, getElem?, getD, take, drop, replicate, length-append, length-map, length-replicate, length-take, length-drop}
 use lib.ListN.{take-append-drop, List·getD-eq-default}
 use lib.Seq.{take-at, drop-at, take-all, take-append-le, drop-append-le, take-add, take-length, length-take-le, ext-getD}
-use lib.Dec.{eqb, leb}
-use borrow.Author.Tests.{eqb-true, eqb-false, eq-eqb, leb-true, le-leb}
-use Rattle.theory.specs.Basics.{cells, all, all-below}
+use lib.Dec.{eqb, ltb, leb}
+use borrow.Author.Tests.{eqb-true, eqb-false, eq-eqb, leb-true, le-leb, ltb-true, ltb-false}
+use Rattle.theory.specs.Basics.{cells, put, all, all-below}
 use Rattle.theory.specs.Text.{Bytes}
 use Rattle.theory.specs.Limits.{most-registers, most-capacity}
+use Rattle.theory.specs.Runs.{within}
+use Rattle.theory.specs.Word as W
 use Rattle.theory.specs.Word.{Symbol, one, hash, bytes-of, byte-of, symbol-of, is-symbol}
-use Rattle.theory.specs.Machines.{Memory, offset, laid, store-of, lengths-of, place-of, contents, refilled}
-use Rattle.theory.specs.Machines.{is-laid, is-limited, is-memory}
-use Rattle.theory.proofs.Faults.{and-first, and-second}
+use Rattle.theory.specs.Word.{Instruction, append, forward, backward, cases, operand}
+use Rattle.theory.specs.Machines.{Memory, Position, offset, laid, store-of, lengths-of, place-of, contents, refilled}
+use Rattle.theory.specs.Machines.{is-laid, is-limited, is-memory, run-word, word-state}
+use Rattle.theory.specs.Claims.{EachOf, NamesAtMost, MemoryStaysGood}
+use Rattle.theory.proofs.Faults.{and-first, and-second, given-some}
+use Rattle.theory.proofs.Cells.{put-ind}
+use Rattle.theory.proofs.Budgets.{run-keeps}
 
 -- Tests
 
@@ -286,3 +294,101 @@ module _ (m : Memory) (g : Good m) where
     store = contents-stored i;
     lengths = contents-counted i;
   }
+
+-- Runs of words
+
+each-at : {A : Type 0} (P : A → Type 0) (l : List A) (n : ℕ) (a : A) → EachOf P l → getElem? l n ≡ some a → P a
+each-at P [] n a h e = absurd (Option·none-ne-some a e)
+each-at P (x ∷ l) zero a h e = subst P (Option·some-injective x a e) (h .0)
+each-at P (x ∷ l) (suc n) a h e = each-at P l n a (h .1) e
+
+-- n registers hold no more than the capacity, and the others nothing
+pub record Held (capacity n : ℕ) (f : ℕ → List Symbol) : Type 0 where
+  pub fits : Fits capacity n f
+  pub beyond : (i : ℕ) → n ≤ i → f (suc i) ≡ []
+
+module _ (capacity n : ℕ) (f : ℕ → List Symbol) (h : Held capacity n f) where
+  held-put : (r : ℕ) (xs : List Symbol) → r ≤ n → length xs ≤ capacity → Held capacity n (put f r xs)
+  held-put r xs named short = record {
+    fits = λ i l. put-ind (λ ys. length ys ≤ capacity) f r xs (suc i) (λ e. short) (λ e. h .fits i l);
+    beyond = λ i l. put-ind (λ ys. ys ≡ []) f r xs (suc i) (λ e. absurd (omega arith)) (λ e. h .beyond i l);
+  }
+
+  within-named : (r : ℕ) → 1 ≤ r → r ≤ n → length (f r) ≤ capacity
+  within-named zero low high = absurd (omega arith)
+  within-named (suc i) low high = h .fits i high
+
+module _ (capacity n : ℕ) where
+  after-append : (s s′ : W.State) (x : Symbol) (r : ℕ) → 1 ≤ r → r ≤ n → W.perform (within capacity) s (append x r) ≡ some s′
+      → Held capacity n (s .registers) → Held capacity n (s′ .registers)
+  after-append s s′ x r low high e h =
+      let xs = s .registers r in
+      let (room, same) = given-some (leb (suc (length xs)) capacity) (W.appended r s x) s′ e in
+      let short : length (xs ++ (x ∷ [])) ≤ capacity = rw length-append (omega (arith, leb-true (suc (length xs)) capacity room)) in
+      subst (λ (t : W.State). Held capacity n (t .registers)) same (held-put capacity n (s .registers) h r (xs ++ (x ∷ [])) high short)
+
+  after-branch : (s : W.State) (r : ℕ) (xs : List Symbol) → r ≤ n → length xs ≤ capacity
+      → Held capacity n (s .registers) → Held capacity n (W.branch r s xs .registers)
+  after-branch s r [] high short h = h
+  after-branch s r (one ∷ xs) high short h = held-put capacity n (s .registers) h r xs high (omega arith)
+  after-branch s r (hash ∷ xs) high short h = held-put capacity n (s .registers) h r xs high (omega arith)
+
+  after-performed : (s s′ : W.State) (i : Instruction) → 1 ≤ operand i → NamesAtMost n i → W.perform (within capacity) s i ≡ some s′
+      → Held capacity n (s .registers) → Held capacity n (s′ .registers)
+  after-performed s s′ (append one r) low names e h = after-append s s′ one r low (names refl) e h
+  after-performed s s′ (append hash r) low names e h = after-append s s′ hash r low (names refl) e h
+  after-performed s s′ (forward r) low names e h =
+      subst (λ (t : W.State). Held capacity n (t .registers)) (Option·some-injective _ s′ e) h
+  after-performed s s′ (backward r) low names e h =
+      subst (λ (t : W.State). Held capacity n (t .registers)) (Option·some-injective _ s′ e) h
+  after-performed s s′ (cases r) low names e h =
+      let short = within-named capacity n (s .registers) h r low (names refl) in
+      let branched = after-branch s r (s .registers r) (names refl) short h in
+      subst (λ (t : W.State). Held capacity n (t .registers)) (Option·some-injective _ s′ e) branched
+
+  after-step : (w : List Instruction) → EachOf (λ i. 1 ≤ operand i) w → EachOf (NamesAtMost n) w → (s s′ : W.State)
+      → W.step (within capacity) w s ≡ some s′ → Held capacity n (s .registers) → Held capacity n (s′ .registers)
+  unfolding W.step
+  after-step w lows names s s′ = go (s .place) (W.fetch w (s .place)) refl
+    where
+      at-place : (q : ℤ) (i : Instruction) → W.fetch w q ≡ some i → (1 ≤ operand i) × NamesAtMost n i
+      at-place (pos zero) i f = absurd (Option·none-ne-some i f)
+      at-place (pos (suc q)) i f = (each-at (λ j. 1 ≤ operand j) w q i lows f, each-at (NamesAtMost n) w q i names f)
+      at-place (negsuc q) i f = absurd (Option·none-ne-some i f)
+
+      go : (q : ℤ) (i : Option Instruction) → W.fetch w q ≡ i → W.perform-fetched (within capacity) s i ≡ some s′
+          → Held capacity n (s .registers) → Held capacity n (s′ .registers)
+      go q none f e h = absurd (Option·none-ne-some s′ e)
+      go q (some i) f e h = after-performed s s′ i (at-place q i f .0) (at-place q i f .1) e h
+
+-- Registers that are held are laid down in a good memory, and read back from it, all of them
+pub held-refilled : (m : Memory) → Good m → (f : ℕ → List Symbol) → Held (m .capacity) (m .registers) f
+    → (is-memory (refilled m f) ≡ true) × ((r : ℕ) → 0 < r → contents (refilled m f) r ≡ f r)
+held-refilled m g f h = (good-is-memory (refilled m f) good, all-registers)
+  where
+    good : Good (refilled m f)
+    good = refilled-good m f (h .fits) (g .registers) (g .capacity)
+
+    register : (i : ℕ) (t : Bool) → ltb i (m .registers) ≡ t → contents (refilled m f) (suc i) ≡ f (suc i)
+    register i true e = contents-refilled m f (h .fits) i (ltb-true i (m .registers) e)
+    register i false e =
+        let past = ltb-false i (m .registers) e in
+        contents-beyond (refilled m f) good i past ∙ sym (h .beyond i past)
+
+    all-registers : (r : ℕ) → 0 < r → contents (refilled m f) r ≡ f r
+    all-registers zero l = absurd (omega arith)
+    all-registers (suc i) l = register i (ltb i (m .registers)) refl
+
+pub run-holds : (w : List Instruction) (m : Memory) (p : Position) (b : ℕ) → Good m → EachOf (λ i. 1 ≤ operand i) w
+    → EachOf (NamesAtMost (m .registers)) w → Held (m .capacity) (m .registers) (run-word w m p b .state .registers)
+unfolding run-word
+run-holds w m p b g lows names =
+    run-keeps (W.machine (within (m .capacity)) w) (λ s. Held (m .capacity) (m .registers) (s .registers))
+    (λ s s′ live e. after-step (m .capacity) (m .registers) w lows names s s′ e)
+    b (p .steps) (word-state m p)
+    (record { fits = contents-fit m g; beyond = contents-beyond m g })
+
+pub memory-stays-good : MemoryStaysGood
+memory-stays-good w m p b good lows names =
+    let g = memory-is-good m good in
+    held-refilled m g (run-word w m p b .state .registers) (run-holds w m p b g lows names)

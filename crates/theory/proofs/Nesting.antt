@@ -65,8 +65,8 @@ next-lines n os c l e = none-second (line-fault n os c) (lines-fault (suc n) (op
 pub faultless : (l : List (Option Command)) → program-fault l ≡ none → (length l ≤ Limits.most-lines) × (lines-fault 1 [] l ≡ none)
 unfolding program-fault rule-3
 faultless l e =
-    let t : leb (length l) Limits.most-lines ≡ true =
-    unless-none (leb (length l) Limits.most-lines) 3 (suc Limits.most-lines) (none-first (rule-3 l) (lines-fault 1 [] l) e) in
+    let few : Bool = leb (length l) Limits.most-lines in
+    let t : few ≡ true = unless-none few 3 (suc Limits.most-lines) (none-first (rule-3 l) (lines-fault 1 [] l) e) in
     (leb-true (length l) Limits.most-lines t, none-second (rule-3 l) (lines-fault 1 [] l) e)
 
 -- An accepted program, rule by rule
@@ -96,14 +96,12 @@ lines-sound (c ∷ p) n os e =
 abbrev pub LowIndices : Command → Type 0
 LowIndices c = above (indices c) ≤ suc Limits.most-index
 
-low-indices : (p : List Command) (n : ℕ) (os : List Open) → lines-fault n os (map some p) ≡ none → EachOf LowIndices p
-low-indices [] n os e = tt
-low-indices (c ∷ p) n os e =
-    let l : List (Option Command) = map some p in
-    (indexed n os c (first-line n os (some c) l e), low-indices p (suc n) (open-next n os (some c)) (next-lines n os (some c) l e))
+low-indices : (p : List Command) (n : ℕ) (os : List Open) → LinesSound n os p → EachOf LowIndices p
+low-indices [] n os s = tt
+low-indices (c ∷ p) n os s = (indexed n os c (s .0), low-indices p (suc n) (open-next n os (some c)) (s .1))
 
 pub low : (p : List Command) → Accepted p → EachOf LowIndices p
-low p a = low-indices p 1 [] (sound p a)
+low p a = low-indices p 1 [] (lines-sound p 1 [] (sound p a))
 
 few-named : (p : List Command) → EachOf LowIndices p → variables p ≤ suc Limits.most-index
 few-named [] e = omega arith

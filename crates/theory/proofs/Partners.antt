@@ -1,6 +1,6 @@
 -- The lines of a block: at each line its partner, and the number of loops around it, after it and in its body.
 use mathlib.Core.Path.{_≡_, refl, sym, ap, _∙_, subst}
-use mathlib.Core.Option.{Option, none, some, Option·none-ne-some, Option·some-injective}
+use mathlib.Core.Option.{some, Option·none-ne-some, Option·some-injective}
 use mathlib.Core.List.{List, [], _∷_, _++_, append-assoc}
 use Prim.Native.Nat.{ℕ, zero, suc, _+_, _≤_, _<_}
 use native.Mathlib.Nat.{add-zero, suc-add}
@@ -8,9 +8,10 @@ use native.Mathlib.Omega.{arith}
 use lib.ListN.{length, getElem?, take, drop, length-append, length-take}
 use lib.Seq.{take-length}
 use Rattle.theory.specs.Basics.{at}
-use Rattle.theory.specs.ProgramText.{Kind, Plain, Command, plain, opens, closes, indices, above, variables, Block, end, line, pair, lines}
+use Rattle.theory.specs.ProgramText.{Kind, Plain, Command, plain, opens, closes, indices, above, variables}
+use Rattle.theory.specs.ProgramText.{Block, end, line, pair, lines}
 use Rattle.theory.specs.Source.{ahead, closing, Opening, closed, open-after, open-at, innermost, opening, deeper, loops, depth}
-use Rattle.theory.proofs.Cells.{Sits, sits-left, sits-right, sits-self, at-within}
+use Rattle.theory.proofs.Cells.{at-within, Sits, sits-left, sits-right, sits-self}
 
 -- What holds of a block that begins at a line, told of every line of the block
 
@@ -100,7 +101,7 @@ drop-next [] n c e = absurd (Option·none-ne-some c e)
 drop-next {A} (x ∷ p) zero c e = ap {B = List A} (λ y. y ∷ p) (Option·some-injective x c e)
 drop-next (x ∷ p) (suc n) c e = drop-next p n c e
 
-slide : (n k : ℕ) → n + suc k ≡ suc n + k
+pub slide : (n k : ℕ) → n + suc k ≡ suc n + k
 slide n k = omega arith
 
 drop-along : {A : Type 0} (p l : List A) (n : ℕ) → Sits p (suc n) l → drop n p ≡ l ++ drop (n + length l) p
@@ -114,7 +115,7 @@ module _ (p : List Command) where
   unfolding open-at
   open-next zero c e = absurd (Option·none-ne-some c e)
   open-next (suc n) c e =
-      let inside : (0 < suc n) × (suc n ≤ length p) = at-within p (suc n) c e in
+      let inside : (1 ≤ suc n) × (suc n ≤ length p) = at-within p (suc n) c e in
       let before : length (take n p) ≡ n = rw length-take (omega (arith, inside .1)) in
       ap (λ l. open-after l 1 []) (take-next p n c e)
       ∙ (open-after-append (take n p) (c ∷ []) 1 [] ∙ ap (λ k. open-after (c ∷ []) k (open-after (take n p) 1 [])) (omega arith))

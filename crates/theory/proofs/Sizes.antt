@@ -111,6 +111,26 @@ pub ends-weight-while : (K d i m : ℕ) → ends-weight K d while i m ≡ 2 * re
 ends-weight-while K d i m = omega arith
 
 module _ (K d : ℕ) where
+  pub spell-line : (c : Plain) (b : Block) → spell (code K d (line c b)) ≡ spell (plain-code K c) ++ spell (code K d b)
+  unfolding code
+  spell-line c b = spell-append (plain-code K c) (code K d b)
+
+  pub spell-pair : (k : Kind) (i : ℕ) (body b : Block)
+      → let inner = code K (deeper k d) body in
+      let m = length inner in
+      spell (code K d (pair k i body b))
+      ≡ spell (before-body K d k i m) ++ (spell inner ++ (spell (after-body k m ∷ []) ++ spell (code K d b)))
+  unfolding code
+  spell-pair k i body b =
+      let inner : List Instruction = code K (deeper k d) body in
+      let m : ℕ = length inner in
+      let last : List Instruction = after-body k m ∷ [] in
+      rw (
+        spell-append (before-body K d k i m) (inner ++ (last ++ code K d b)),
+        spell-append inner (last ++ code K d b),
+        spell-append last (code K d b),
+      )
+
   pub length-line : (c : Plain) (b : Block) → length (code K d (line c b)) ≡ length (plain-code K c) + length (code K d b)
   unfolding code
   length-line c b = length-append (plain-code K c) (code K d b)
@@ -331,14 +351,15 @@ sized p a =
     let b : Block = block-of p in
     let K : ℕ = variables p in
     let e : lines b ≡ p = well-nested p a in
-    let few : K ≤ 32 = few-variables p a in
-    let w : length (lines b) ≤ 512 = rw e (short p a) in
+    let few : K ≤ 32 = omega (arith, few-variables p a) in
+    let deep : nest b ≤ 16 = omega (arith, shallow p a) in
+    let w : length (lines b) ≤ 512 = rw e (omega (arith, short p a)) in
     record {
-      symbols = rw (spelled (word b), e) (omega (arith, code-weight K 0 16 b few (rw e few) (omega arith) (shallow p a)));
+      symbols = rw (spelled (word b), e) (omega (arith, code-weight K 0 16 b few (rw e few) (omega arith) deep));
       instructions = rw e (omega (arith, code-length K 0 b));
       operands = each-map (Fits (K + 17)) (λ i. 1 ≤ operand i) (λ i f. f .operand) (word-of p) (word-fits p a);
       registers = each-map (Fits (K + 17)) (NamesAtMost (K + 17)) (λ i f. f .register) (word-of p) (word-fits p a);
-      variables = few;
+      variables = few-variables p a;
     }
 
 -- So a set with 64 registers reads the word that is written, and its instructions are those of the word

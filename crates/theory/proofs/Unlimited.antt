@@ -4,13 +4,13 @@ use mathlib.Core.Path.{_≡_, refl, ap, _∙_}
 use mathlib.Core.Logic.{_≢_}
 use mathlib.Core.Bool.{Bool, true, false, cond, _&&_}
 use mathlib.Core.Option.{Option, none, some, Option·none-ne-some}
-use mathlib.Core.List.{List, [], _∷_}
-use Prim.Native.Nat.{ℕ, zero, suc, _+_, _≤_, _<_}
+use mathlib.Core.List.{List}
+use Prim.Native.Nat.{ℕ, suc, _+_, _≤_}
 use native.Mathlib.Nat.{add-zero, zero-add, suc-add, add-suc}
 use native.Mathlib.Numerals.{one-add}
 use native.Mathlib.Omega.{arith}
 use lib.IntN.{ℤ, pos, negsuc}
-use lib.ListN.{length, getElem?}
+use lib.ListN.{length}
 use lib.Dec.{ltb, leb, eqb}
 use borrow.Author.Tests.{lt-ltb, ne-eqb, le-leb}
 use Rattle.theory.specs.Limits.{last-count}
@@ -24,6 +24,7 @@ use Rattle.theory.specs.Claims.{SourceUnlimited, WordUnlimited}
 use Rattle.theory.specs.declared.End.{End}
 use Rattle.theory.specs.declared.End.the-variants.{Halted, Strayed, Spent, Full}
 use Rattle.theory.proofs.Budgets.{run-induction, run-step, advanced}
+use Rattle.theory.proofs.Cells.{at-within}
 
 -- A run of one step function is a run of any other that does its steps too
 module _ {S : Type 0} {next next′ : S → Option S} {cost : S → ℕ} where
@@ -83,16 +84,6 @@ never z = omega arith
 given-more : {A : Type 0} (t t′ : Bool) (x y : A) → (t ≡ true → t′ ≡ true) → given t x ≡ some y → given t′ x ≡ some y
 given-more true t′ x y more e = rw (more refl) e
 given-more false t′ x y more e = absurd (Option·none-ne-some y e)
-
--- What stands at a place of a list is not past its end
-fetched-within : {A : Type 0} (l : List A) (n : ℕ) (a : A) → getElem? l n ≡ some a → n < length l
-fetched-within [] n a e = absurd (Option·none-ne-some a e)
-fetched-within (x ∷ l) zero a e = omega arith
-fetched-within (x ∷ l) (suc n) a e = let h : n < length l = fetched-within l n a e in omega arith
-
-pub at-within : {A : Type 0} (l : List A) (n : ℕ) (a : A) → at l n ≡ some a → (1 ≤ n) × (n ≤ length l)
-at-within l zero a e = absurd (Option·none-ne-some a e)
-at-within l (suc n) a e = let h : n < length l = fetched-within l n a e in omega arith
 
 -- More room takes no step away
 module _ (room room′ : Room) (more : (r n : ℕ) → room r n ≡ true → room′ r n ≡ true) where

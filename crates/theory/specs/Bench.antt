@@ -87,35 +87,32 @@ adder = "loop X1\nX0 <- X0 + 1\nendloop X1\n"
 abbrev pub adder-word : String
 adder-word = "1###11#####1111###1111#111#1111####111#####111###11#111####1111#####111###1#111####"
 
+abbrev pub copy-word : String
+copy-word = "1###1#####11###11####11#####1111###1#111#1111####111#####111###11#111####"
+
+-- What is expected, in the order of the records' fields
+abbrev pub shows : End → ℕ → ℤ → List String → Shown
+shows e n q rs = record { end = e; steps = n; place = q; registers = map bytes rs }
+
+abbrev pub gives : String → End → ℕ → List ℕ → Shown → Both
+gives w e n v r = record { word = bytes w; end = e; steps = n; values = v; run = r }
+
 unfoldable pub table : List Row
 table =
-    program adder 1024 (0 ∷ 3 ∷ []) (record {
-      word = bytes adder-word; end = Halted; steps = 7; values = 3 ∷ 3 ∷ [];
-      run = record { end = Halted; steps = 37; place = pos 15; registers = bytes "111" ∷ bytes "111" ∷ [] } })
-    ∷ program adder 1024 (0 ∷ 0 ∷ []) (record {
-      word = bytes adder-word; end = Halted; steps = 1; values = 0 ∷ 0 ∷ [];
-      run = record { end = Halted; steps = 7; place = pos 15; registers = bytes "" ∷ bytes "" ∷ [] } })
-    ∷ program "" 1024 [] (record {
-      word = bytes "1###"; end = Halted; steps = 0; values = [];
-      run = record { end = Halted; steps = 1; place = pos 2; registers = [] } })
-    ∷ program "X0 <- X1\n" 1024 (1 ∷ 2 ∷ []) (record {
-      word = bytes "1###1#####11###11####11#####1111###1#111#1111####111#####111###11#111####"; end = Halted; steps = 1; values = 2 ∷ 2 ∷ [];
-      run = record { end = Halted; steps = 23; place = pos 14; registers = bytes "11" ∷ bytes "11" ∷ [] } })
-    ∷ program "X2 <- X2\n" 1024 (0 ∷ 0 ∷ 4 ∷ []) (record {
-      word = bytes "1###111#####11###111#"; end = Halted; steps = 1; values = 0 ∷ 0 ∷ 4 ∷ [];
-      run = record { end = Halted; steps = 3; place = pos 5; registers = bytes "" ∷ bytes "" ∷ bytes "1111" ∷ [] } })
-    ∷ program "while X1 != 0\nX1 <- 0\nendwhile X1 != 0\n" 1024 (0 ∷ 5 ∷ []) (record {
-      word = bytes "1###11#####111111###11#11#####11###11####111111####"; end = Halted; steps = 4; values = 0 ∷ 0 ∷ [];
-      run = record { end = Halted; steps = 18; place = pos 9; registers = bytes "" ∷ bytes "" ∷ [] } })
-    ∷ word "11###" [] (record { end = Strayed; steps = 1; place = pos 3; registers = [] })
-    ∷ word "1####" [] (record { end = Strayed; steps = 1; place = pos 0; registers = [] })
-    ∷ word "1#####" ("" ∷ []) (record { end = Halted; steps = 1; place = pos 2; registers = bytes "" ∷ [] })
-    ∷ word "1#####" ("1" ∷ []) (record { end = Strayed; steps = 1; place = pos 3; registers = bytes "" ∷ [] })
-    ∷ word "11#####111111###111###1##1111####1#111111####" ("#" ∷ "1#" ∷ []) (record {
-      end = Halted; steps = 9; place = pos 8; registers = bytes "#1#" ∷ bytes "" ∷ [] })
-    ∷ program "X0 <- X0 + 1\n" 2 (2 ∷ []) (record {
-      word = bytes "1###1#"; end = Full; steps = 0; values = 2 ∷ [];
-      run = record { end = Full; steps = 1; place = pos 2; registers = bytes "11" ∷ [] } })
+    program adder 1024 (0 ∷ 3 ∷ []) (gives adder-word Halted 7 (3 ∷ 3 ∷ []) (shows Halted 37 (pos 15) ("111" ∷ "111" ∷ [])))
+    ∷ program adder 1024 (0 ∷ 0 ∷ []) (gives adder-word Halted 1 (0 ∷ 0 ∷ []) (shows Halted 7 (pos 15) ("" ∷ "" ∷ [])))
+    ∷ program "" 1024 [] (gives "1###" Halted 0 [] (shows Halted 1 (pos 2) []))
+    ∷ program "X0 <- X1\n" 1024 (1 ∷ 2 ∷ []) (gives copy-word Halted 1 (2 ∷ 2 ∷ []) (shows Halted 23 (pos 14) ("11" ∷ "11" ∷ [])))
+    ∷ program "X2 <- X2\n" 1024 (0 ∷ 0 ∷ 4 ∷ [])
+    (gives "1###111#####11###111#" Halted 1 (0 ∷ 0 ∷ 4 ∷ []) (shows Halted 3 (pos 5) ("" ∷ "" ∷ "1111" ∷ [])))
+    ∷ program "while X1 != 0\nX1 <- 0\nendwhile X1 != 0\n" 1024 (0 ∷ 5 ∷ [])
+    (gives "1###11#####111111###11#11#####11###11####111111####" Halted 4 (0 ∷ 0 ∷ []) (shows Halted 18 (pos 9) ("" ∷ "" ∷ [])))
+    ∷ word "11###" [] (shows Strayed 1 (pos 3) [])
+    ∷ word "1####" [] (shows Strayed 1 (pos 0) [])
+    ∷ word "1#####" ("" ∷ []) (shows Halted 1 (pos 2) ("" ∷ []))
+    ∷ word "1#####" ("1" ∷ []) (shows Strayed 1 (pos 3) ("" ∷ []))
+    ∷ word "11#####111111###111###1##1111####1#111111####" ("#" ∷ "1#" ∷ []) (shows Halted 9 (pos 8) ("#1#" ∷ "" ∷ []))
+    ∷ program "X0 <- X0 + 1\n" 2 (2 ∷ []) (gives "1###1#" Full 0 (2 ∷ []) (shows Full 1 (pos 2) ("11" ∷ [])))
     ∷ []
 
 -- Every row holds

@@ -44,11 +44,11 @@ module _ {S : Type 0} (M : Machine S) where
   run zero n s = elim (M .ended s) [ some e ↦ stop e s | none ↦ stop Spent s ]
   run (suc budget) n s =
       elim (M .ended s) [
-        some e ↦ stop e s
+        | some e ↦ stop e s
         | none ↦ elim (ltb n last-count) [
-            false ↦ stop Spent s
-            | true ↦ elim (M .next s) [ none ↦ stop Full s | some s′ ↦ stepped (run budget (suc n) s′) ]
-          ]
+          | false ↦ stop Spent s
+          | true ↦ elim (M .next s) [ none ↦ stop Full s | some s′ ↦ stepped (run budget (suc n) s′) ]
+        ]
       ]
 
 -- Unlimited runs: from s, by steps of `next`, each paid by the `cost` of the state before it, to t, for m in all

@@ -1,0 +1,33 @@
+-- What the entries of this crate hand back: the answers of document 01, with their numbers and places, as values of the crate's types.
+use mathlib.Core.List.{List}
+use Prim.Native.Nat.{ℕ}
+use lib.ListN.{length}
+use Rattle.theory.specs.ProgramText.{Command, variables, text-of, list-of}
+use Rattle.theory.specs.TurnedDown.{Answer, done, refused, answer, after, mapped, rule-19, lend, read-text, read-list}
+use Rattle.program.specs.declared.Program.{Program}
+use Rattle.program.specs.declared.Checked.{Checked}
+use Rattle.program.specs.declared.Written.{Written}
+use Rattle.program.specs.declared.Checked.the-variants as C
+use Rattle.program.specs.declared.Written.the-variants as W
+
+-- What is known of an accepted program: "K is the highest index named plus 1, or 0"
+abbrev pub program-of : List Command → Program
+program-of p = record { lines = length p; variables = variables p }
+
+-- A program checked: it is accepted, or the number and place of the first rule that applies
+abbrev pub checked : Answer (List Command) → Checked
+checked (done p) = C.Accepted (program-of p)
+checked (refused r) = C.Refused r
+
+-- A program read into a lent list of three numbers a command: rules 1 to 8, then 19
+unfoldable pub read-into : List ℕ → List ℕ → Answer (List Command)
+read-into lent t = after (read-text t) λ p. answer (rule-19 lent (list-of p)) p
+
+-- A program written: its number of bytes, or the number and place of the first rule that applies
+abbrev pub written : Answer (List ℕ) → Written
+written (done l) = W.Done (length l)
+written (refused r) = W.Refused r
+
+-- A list written into a lent text: rules 3 to 8, then 19
+unfoldable pub write-into : List ℕ → List ℕ → Answer (List ℕ)
+write-into lent l = lend lent (mapped text-of (read-list l))

@@ -1,0 +1,54 @@
+-- The code's stack of open pairs as the definitions' list of them, and its verdict on one command.
+use mathlib.Core.Bool.{Bool, true, false, cond, _&&_}
+use mathlib.Core.Option.{Option, none, some}
+use mathlib.Core.List.{List, [], _∷_}
+use mathlib.Core.Path.{_≡_}
+use Prim.Native.Nat.{ℕ, zero, suc, _≤_}
+use lib.ListN.{getD, replicate}
+use lib.Dec.{eqb, ltb}
+use Rattle.theory.specs.ProgramText.{Kind, loop, while, Command}
+use Rattle.theory.specs.TurnedDown.{Open, open-next}
+use Rattle.theory.specs.declared.Refusal.{Refusal}
+use Rattle.program.specs.declared.Program.{Program}
+use Rattle.program.specs.declared.Checked.{Checked}
+use Rattle.program.specs.declared.Checked.the-variants.{Accepted, Refused}
+use Rattle.program.specs.declared.nest.Opening.{Opening}
+use Rattle.program.specs.declared.nest.Nest.{Nest}
+use Rattle.program.specs.declared.nest.Judged.{Judged}
+use Rattle.program.specs.declared.nest.Judged.the-variants.{Passes, Fault}
+
+-- The kind of an opening line, by its number in the list
+abbrev pub kind-of : ℕ → Kind
+kind-of k = cond (eqb k 4) loop while
+
+abbrev pub nothing : Opening
+nothing = record { line = 0; kind = 0; index = 0 }
+
+abbrev pub no-pairs : Nest
+no-pairs = record { count = 0; openings = replicate 16 nothing }
+
+-- The first n openings as the definitions have them, the innermost (the last) first
+unfoldable pub innermost : ℕ → List Opening → List Open
+innermost zero l = []
+innermost (suc n) l = let o = getD l n nothing in record { line = o .line; kind = kind-of (o .kind); index = o .index } ∷ innermost n l
+
+abbrev pub open-pairs : Nest → List Open
+open-pairs s = innermost (s .count) (s .openings)
+
+-- Whether a kind and a third number are those of a command
+abbrev pub is-known : ℕ → ℕ → Bool
+is-known k j = cond (eqb k 0) false (cond (eqb k 3) true (cond (ltb k 8) (eqb j 0) false))
+
+abbrev pub judgement : Option Refusal → Judged
+judgement none = Passes
+judgement (some r) = Fault r
+
+-- The pairs after command c at line n, under the pairs os
+pub record Follows (n : ℕ) (os : List Open) (c : Option Command) (r : Nest) : Type 0 where
+  pub pairs : open-pairs r ≡ open-next n os c
+  pub room : r .count ≤ 16
+
+-- "A pair is left open (place the innermost opening line)", 8; else the program is accepted
+abbrev pub at-end : Program → List Open → Checked
+at-end p [] = Accepted p
+at-end p (o ∷ os) = Refused (record { number = 8; place = o .line })

@@ -1,0 +1,5 @@
+pub mod Runs
+pub mod Items
+pub mod Along
+pub mod Judged
+pub mod Fills

@@ -1,0 +1,28 @@
+// The types that this crate's entries take and hand back.
+use theory::Refusal;
+
+// An instruction: its kind, the number of # (1 to 5), and its operand, the number of 1s before them.
+pub struct Instruction {
+    pub kind: u8,
+    pub operand: u32,
+}
+
+impl Instruction {
+    pub const SYMBOLS: usize = 600000;
+
+    pub const INSTRUCTIONS: usize = 8192;
+
+    pub const KINDS: u8 = 5;
+}
+
+// The number of instructions read, or why the word or the table is turned down.
+pub enum Read {
+    Done(usize),
+    Refused(Refusal),
+}
+
+// The number of symbols written, or why the table is turned down.
+pub enum Written {
+    Done(usize),
+    Refused(Refusal),
+}

@@ -1,0 +1,9 @@
+// Words and instruction tables. Reading a word fills a lent table, and writing spells a table into a lent word. A table is two slices of numbers,
+// kinds and operands, or one slice of records.
+mod answers;
+mod reading;
+
+pub use answers::Instruction;
+pub use answers::Read;
+pub use answers::Written;
+pub use reading::read;

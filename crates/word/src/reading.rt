@@ -1,0 +1,179 @@
+// Reading a word: rules 11 to 14 in order, with byte offsets as places, and then 19. Nothing is written before the count is known.
+ghost use mathlib.Core.Path.{_≡_};
+ghost use Prim.Native.Nat.{_+_, _≤_};
+ghost use lib.ListN.{length, drop};
+ghost use Rattle.theory.specs.TurnedDown.{read-word};
+ghost use Rattle.word.specs.Answers.{read-answer, ReadsInto};
+ghost use Rattle.word.specs.Scan.{run, symbols, kind-number, item-at, fault-place, Readable, scan-answer, Fillable, Filled};
+use crate::answers::Instruction;
+use crate::answers::Read;
+use theory::Refusal;
+
+// An instruction of a word, and where the next one starts. Kind 0 stands for a number of # that is none of 1 to 5.
+struct Item {
+    kind: u8,
+    operand: u32,
+    next: usize,
+}
+
+// Where the run of `byte` that starts at `at` ends.
+fn run_end(word: &[u8], at: usize, byte: u8) -> usize
+    requires { ⌜ at ≤ length (now word) ⌝ }
+    ensures { λ r. ⌜ r ≡ at + run byte (drop at (now (word .entry))) ⌝ }
+{
+    let mut i = at;
+    while i < word.len() {
+        if word[i] != byte {
+            return i;
+        }
+        i += 1;
+    }
+    i
+}
+
+// The place of the first byte that is neither 1 nor #, or the length.
+fn symbols_end(word: &[u8]) -> usize
+    ensures { λ r. ⌜ r ≡ symbols (now (word .entry)) ⌝ }
+{
+    let mut i: usize = 0;
+    while i < word.len() {
+        let b = word[i];
+        if b != 49 && b != 35 {
+            return i;
+        }
+        i += 1;
+    }
+    i
+}
+
+// The kind that a number of # makes, 1 to 5, and 0 for any other.
+fn kind_of(hashes: usize) -> u8
+    ensures { λ r. ⌜ r ≡ kind-number hashes ⌝ }
+{
+    match hashes {
+        1 => 1,
+        2 => 2,
+        3 => 3,
+        4 => 4,
+        5 => 5,
+        _ => 0,
+    }
+}
+
+// The item that starts at `at`.
+fn item_at(word: &[u8], at: usize) -> Item
+    requires { ⌜ (at ≤ length (now word)) × (length (now word) ≤ 600000) ⌝ }
+    ensures { λ r. ⌜ r ≡ item-at (now (word .entry)) at ⌝ }
+{
+    let middle = run_end(word, at, 49);
+    let next = run_end(word, middle, 35);
+    Item {
+        kind: kind_of(next - middle),
+        operand: (middle - at) as u32,
+        next,
+    }
+}
+
+fn refused(number: u32, place: usize) -> Read
+    ensures { λ r. ⌜ r ≡ Read.Refused (record { number = number; place = place }) ⌝ }
+{
+    Read::Refused(Refusal { number, place })
+}
+
+// Where an item that starts at `at` and is no instruction has its fault: at its start where it has no 1, at its end where it has no #, and else at its
+// sixth #.
+fn fault_place(at: usize, e: Item) -> usize
+    requires { ⌜ at + e .operand ≤ 600000 ⌝ }
+    ensures { λ r. ⌜ r ≡ fault-place at e ⌝ }
+{
+    let operand = e.operand as usize;
+    if operand == 0 {
+        return at;
+    }
+    let middle = at + operand;
+    if e.next == middle {
+        return middle;
+    }
+    middle + 5
+}
+
+// Rules 13 and 14, of a word of 1s and #s. `extra` is where the first instruction too many starts.
+fn scan(word: &[u8]) -> Read
+    requires { ⌜ Readable (now word) ⌝ }
+    ensures { λ r. ⌜ r ≡ scan-answer (now (word .entry)) ⌝ }
+{
+    let mut at: usize = 0;
+    let mut count: usize = 0;
+    let mut extra: usize = 0;
+    while at < word.len() {
+        let e = item_at(word, at);
+        if e.operand == 0 {
+            return refused(13, fault_place(at, e));
+        }
+        if e.kind == 0 {
+            return refused(13, fault_place(at, e));
+        }
+        if count == Instruction::INSTRUCTIONS {
+            extra = at;
+        }
+        at = e.next;
+        count += 1;
+    }
+    if count <= Instruction::INSTRUCTIONS {
+        Read::Done(count)
+    } else {
+        refused(14, extra)
+    }
+}
+
+// Rules 11 to 14.
+fn measure(word: &[u8]) -> Read
+    ensures { λ r. ⌜ r ≡ read-answer (read-word (now (word .entry))) ⌝ }
+{
+    if word.len() == 0 {
+        return refused(11, 0);
+    }
+    if Instruction::SYMBOLS < word.len() {
+        return refused(11, 0);
+    }
+    let end = symbols_end(word);
+    if end < word.len() {
+        return refused(12, end);
+    }
+    scan(word)
+}
+
+// Puts the instructions of a word that measure passed into the two slices.
+fn fill(word: &[u8], count: usize, kinds: &mut [u8], operands: &mut [u32])
+    requires { ⌜ Fillable (now word) count (now kinds) (now operands) ⌝ }
+    ensures { λ _. ⌜ Filled (now (word .entry)) (now (kinds .entry)) (now (operands .entry)) (now (kinds .exit)) (now (operands .exit)) ⌝ }
+{
+    let mut at: usize = 0;
+    let mut i: usize = 0;
+    while i < count {
+        let e = item_at(word, at);
+        kinds[i] = e.kind;
+        operands[i] = e.operand;
+        at = e.next;
+        i += 1;
+    }
+}
+
+// Reads a word into lent kinds and operands: rules 11 to 14, then 19.
+pub fn read(word: &[u8], kinds: &mut [u8], operands: &mut [u32]) -> Read
+    ensures { λ r. ⌜ ReadsInto (now (word .entry)) (now (kinds .entry)) (now (operands .entry)) r (now (kinds .exit)) (now (operands .exit)) ⌝ }
+{
+    match measure(word) {
+        Read::Done(count) => {
+            if kinds.len() < count {
+                return refused(19, 0);
+            }
+            if operands.len() < count {
+                return refused(19, 0);
+            }
+            fill(word, count, kinds, operands);
+            Read::Done(count)
+        }
+        Read::Refused(r) => Read::Refused(r),
+    }
+}

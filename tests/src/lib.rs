@@ -1,0 +1,44 @@
+//! The twin: document 01 implemented once more, from the document alone, in plain Rust. The library is held against it.
+
+#[cfg(feature = "library")]
+pub mod library;
+pub mod machine;
+pub mod page;
+pub mod program;
+pub mod random;
+pub mod sheet;
+pub mod source;
+pub mod tool;
+pub mod translation;
+pub mod word;
+
+/// "Each answer is number and place."
+#[derive(Clone, Copy, PartialEq, Eq, Debug)]
+pub struct Refusal {
+    pub number: u32,
+    pub place: usize,
+}
+
+pub fn refuse<T>(number: u32, place: usize) -> Result<T, Refusal> {
+    Err(Refusal { number, place })
+}
+
+/// How a run ends.
+#[derive(Clone, Copy, PartialEq, Eq, Debug)]
+pub enum End {
+    Halted,
+    Strayed,
+    Spent,
+    Full,
+}
+
+impl End {
+    pub fn name(self) -> &'static str {
+        match self {
+            End::Halted => "halted",
+            End::Strayed => "strayed",
+            End::Spent => "spent",
+            End::Full => "full",
+        }
+    }
+}

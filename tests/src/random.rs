@@ -1,0 +1,242 @@
+//! Cases by chance, the same for the same seed: programs, words, states, sheets, and damage to them.
+
+use crate::machine::Machine;
+use crate::program::{list, variables, write, Command, Kind, OPEN};
+use crate::source::State;
+use crate::word::{spell, Instruction};
+
+/// A generator of 64-bit numbers (splitmix64).
+pub struct Random(u64);
+
+impl Random {
+    pub fn new(seed: u64) -> Random {
+        Random(seed)
+    }
+
+    pub fn next(&mut self) -> u64 {
+        self.0 = self.0.wrapping_add(0x9e37_79b9_7f4a_7c15);
+        let mut z = self.0;
+        z = (z ^ (z >> 30)).wrapping_mul(0xbf58_476d_1ce4_e5b9);
+        z = (z ^ (z >> 27)).wrapping_mul(0x94d0_49bb_1331_11eb);
+        z ^ (z >> 31)
+    }
+
+    /// A number below `n`.
+    pub fn below(&mut self, n: usize) -> usize {
+        (self.next() % n.max(1) as u64) as usize
+    }
+
+    /// True once in `n` times.
+    pub fn once_in(&mut self, n: usize) -> bool {
+        self.below(n) == 0
+    }
+
+    pub fn pick<T: Copy>(&mut self, from: &[T]) -> T {
+        from[self.below(from.len())]
+    }
+
+    /// Mostly small, sometimes at or past a limit.
+    fn near(&mut self, small: usize, limit: usize) -> usize {
+        match self.below(8) {
+            0 => limit,
+            1 => limit + 1,
+            2 => limit.saturating_sub(1),
+            _ => self.below(small),
+        }
+    }
+
+    /// A well-nested program of about `lines` lines over variables below `names`.
+    pub fn program(&mut self, lines: usize, names: usize) -> Vec<Command> {
+        let mut commands = Vec::new();
+        let mut open: Vec<(Kind, u64)> = Vec::new();
+        while commands.len() < lines {
+            let index = self.below(names) as u64;
+            let command = match self.below(10) {
+                0 => Command::Clear(index),
+                1..=3 => Command::Increment(index),
+                4 | 5 => Command::Copy { to: index, from: self.below(names) as u64 },
+                6 | 7 if open.len() < OPEN => Command::Open(if self.once_in(3) { Kind::While } else { Kind::Loop }, index),
+                _ => match open.last() {
+                    Some(&(kind, index)) => Command::Close(kind, index),
+                    None => Command::Increment(index),
+                },
+            };
+            match command {
+                Command::Open(kind, index) => open.push((kind, index)),
+                Command::Close(..) => {
+                    open.pop();
+                }
+                _ => {}
+            }
+            commands.push(command);
+        }
+        while let Some((kind, index)) = open.pop() {
+            commands.push(Command::Close(kind, index));
+        }
+        commands
+    }
+
+    fn sized_program(&mut self) -> Vec<Command> {
+        let lines = match self.below(12) {
+            0 => 0,
+            1 => self.near(40, 512),
+            2 => 1,
+            _ => 1 + self.below(14),
+        };
+        let names = if self.once_in(6) { 32 } else { 1 + self.below(5) };
+        self.program(lines, names)
+    }
+
+    /// A program's text, damaged or not.
+    pub fn text(&mut self) -> Vec<u8> {
+        let mut text = write(&self.sized_program());
+        if self.once_in(3) {
+            let times = 1 + self.below(3);
+            for _ in 0..times {
+                self.damage(&mut text, b"X0123456789 <-+1=!loopendwhile\n\r\t\0\xff");
+            }
+        }
+        if self.once_in(40) {
+            text.resize(self.near(16_384, 16_384), b'\n');
+        }
+        text
+    }
+
+    /// A program as a list of numbers, damaged or not.
+    pub fn list(&mut self) -> Vec<u8> {
+        let mut list = list(&self.sized_program());
+        if self.once_in(3) {
+            self.damage(&mut list, &[0, 1, 2, 3, 4, 5, 6, 7, 8, 31, 32, 255]);
+        }
+        list
+    }
+
+    /// One byte changed, dropped or put in, or a part of the text repeated or cut.
+    pub fn damage(&mut self, text: &mut Vec<u8>, with: &[u8]) {
+        let at = self.below(text.len() + 1);
+        let byte = self.pick(with);
+        match self.below(6) {
+            0 if at < text.len() => text[at] = byte,
+            1 if at < text.len() => {
+                text.remove(at);
+            }
+            2 => text.truncate(at),
+            3 => {
+                let part = text[at..(at + self.below(40)).min(text.len())].to_vec();
+                text.splice(at..at, part);
+            }
+            4 => {
+                let digits = vec![b'1' + self.below(9) as u8; self.below(30)];
+                text.splice(at..at, digits);
+            }
+            _ => text.insert(at, byte),
+        }
+    }
+
+    pub fn budget(&mut self) -> u32 {
+        match self.below(6) {
+            0 => 0,
+            1 => self.below(8) as u32,
+            2 => u32::MAX,
+            _ => self.below(3000) as u32,
+        }
+    }
+
+    fn count(&mut self) -> u32 {
+        match self.below(5) {
+            0 => u32::MAX,
+            1 => u32::MAX - self.below(20) as u32,
+            _ => self.below(100) as u32,
+        }
+    }
+
+    /// A source state for a program; most pass rule 9.
+    pub fn state(&mut self, commands: &[Command]) -> State {
+        let k = variables(commands);
+        let capacity = 1 + self.below(12) as u32;
+        let mut values = [0; 32];
+        for value in &mut values[..k.min(32)] {
+            *value = self.below(capacity as usize + 1) as u32;
+        }
+        let mut state = State::fresh(capacity, values);
+        state.steps = self.count();
+        if self.once_in(3) {
+            state.line = self.below(commands.len() + 3) as u32;
+            for passes in &mut state.passes {
+                *passes = if self.once_in(2) { self.below(capacity as usize + 2) as u32 } else { 0 };
+            }
+        }
+        if self.once_in(12) {
+            state.capacity = self.pick(&[0, 1, 1024, 1025, u32::MAX]);
+        }
+        if self.once_in(12) {
+            state.values[self.below(32)] = self.pick(&[1, 1024, 1025, u32::MAX]);
+        }
+        state
+    }
+
+    /// A table of instructions that stay near one another; its registers are below `registers`, its transfers short.
+    pub fn table(&mut self, registers: usize) -> Vec<Instruction> {
+        let count = 1 + self.below(12);
+        (0..count)
+            .map(|_| {
+                let kind = 1 + self.below(5) as u8;
+                let most = if matches!(kind, 3 | 4) { count + 2 } else { registers };
+                Instruction { kind, operand: 1 + self.below(most) as u32 }
+            })
+            .collect()
+    }
+
+    /// A word, damaged or not.
+    pub fn word(&mut self, registers: usize) -> Vec<u8> {
+        let mut word = spell(&self.table(registers));
+        if self.once_in(3) {
+            self.damage(&mut word, b"1##12\n\0");
+        }
+        word
+    }
+
+    /// A machine; most pass rule 10.
+    pub fn machine(&mut self) -> Machine {
+        let registers = 1 + self.below(6);
+        let capacity = 1 + self.below(9);
+        let contents: Vec<_> = (0..registers)
+            .map(|_| (0..self.below(capacity + 1)).map(|_| if self.once_in(3) { b'#' } else { b'1' }).collect())
+            .collect();
+        let mut machine = Machine::fresh(registers, capacity, &contents);
+        machine.steps = self.count();
+        if self.once_in(4) {
+            machine.place = self.pick(&[i32::MIN, -1, 0, 2, 3, 9, i32::MAX]);
+        }
+        match self.below(24) {
+            0 => machine.registers += 1,
+            1 => machine.capacity = self.pick(&[0, 1025, usize::from(u16::MAX)]),
+            2 => machine.store.push(0),
+            3 => machine.lengths.push(0),
+            4 => machine.lengths[0] += 1,
+            5 => {
+                let at = self.below(machine.store.len());
+                machine.store[at] = self.pick(b"1#2\0\xff");
+            }
+            _ => {}
+        }
+        machine
+    }
+
+    /// A sheet for a program of `k` variables, damaged or not.
+    pub fn sheet(&mut self, k: usize) -> Vec<u8> {
+        let names = self.below(k.min(4) + 1);
+        let first = self.below(k.max(1));
+        let line: Vec<_> = (0..names).map(|n| format!("X{}", (first + n) % k.max(1))).collect();
+        let mut sheet = line.join(" ") + "\n";
+        for _ in 0..self.below(4) {
+            let values: Vec<_> = (0..names).map(|_| self.near(20, 1024).to_string()).collect();
+            sheet += &(values.join(" ") + "\n");
+        }
+        let mut sheet = sheet.into_bytes();
+        if self.once_in(3) {
+            self.damage(&mut sheet, b"X0123456789 \n\r\0");
+        }
+        sheet
+    }
+}

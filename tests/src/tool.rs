@@ -1,0 +1,37 @@
+//! What the run tool prints.
+
+use crate::machine::{Machine, REGISTERS};
+use crate::program::{read, variables};
+use crate::source::{run, State, CAPACITY};
+use crate::translation::translate;
+use crate::word::spell;
+use crate::{refuse, sheet, Refusal};
+
+pub const SOURCE_BUDGET: u32 = 100_000;
+pub const WORD_BUDGET: u32 = 1_000_000;
+pub const WORD_BYTES: usize = 65_536;
+
+fn runs(text: &[u8], sheet: &[u8]) -> Result<String, Refusal> {
+    let commands = read(text)?;
+    let k = variables(&commands);
+    let rows = sheet::read(sheet, k, u64::from(CAPACITY))?;
+    let word = translate(&commands);
+    if spell(&word).len() > WORD_BYTES {
+        return refuse(19, 0);
+    }
+    let mut out = String::from("source-end source-steps word-end word-steps X0\n");
+    for row in rows {
+        let mut state = State::fresh(CAPACITY, row);
+        let source = run(&commands, &mut state, SOURCE_BUDGET);
+        let ones: Vec<_> = row[..k].iter().map(|&v| vec![b'1'; v as usize]).collect();
+        let mut machine = Machine::fresh(REGISTERS, CAPACITY as usize, &ones);
+        let (end, steps) = machine.run(&word, WORD_BUDGET);
+        out += &format!("{} {} {} {} {}\n", source.end.name(), source.steps, end.name(), steps, state.values[0]);
+    }
+    Ok(out)
+}
+
+/// The whole text, from the program's and the sheet's.
+pub fn report(text: &[u8], sheet: &[u8]) -> String {
+    runs(text, sheet).unwrap_or_else(|r| format!("refused {} {}\n", r.number, r.place))
+}
