@@ -45,6 +45,14 @@ off-loops P l m p o c four five =
     go false false false true = o (first-at l m)
     go false false false false = c (first-at l m)
 
+-- The entry is the number of loops around the line, but at `endloop`
+pub off-endloop : (l : List ℕ) (m : ℕ) → (kind-at l m ≡ 5 → ⊥) → (d : ℕ) → entry-of (command-at l m) d ≡ d
+off-endloop l m five d = go (ℕ-discrete (kind-at l m) 4)
+  where
+    go : Dec (kind-at l m ≡ 4) → entry-of (command-at l m) d ≡ d
+    go (yes four) = rw (of-kind l m 4 four)
+    go (no four) = off-loops (λ c. entry-of c d ≡ d) l m (λ c. refl) (λ i. refl) (λ i. refl) four five
+
 -- n lines have been passed: as many loops are open as are around the next line
 pub record Entering (l : List ℕ) (n deep : ℕ) (es : List ℕ) : Type 0 where
   pub count : deep ≡ depth (program l) (suc n)
@@ -60,7 +68,7 @@ module _ (l : List ℕ) (h : Holds l) (n : ℕ) (inside : n < length (program l)
       let pair : Known (program l) (suc n) (opens loop (first-at l n)) = rw (of-kind l n 4 e) at (partner l h n inside) in
       pair .1 .body-depth
 
-  closed-depth : kind-at l n ≡ 5 → depth (program l) (suc n) ≡ suc (depth (program l) (suc (suc n)))
+  pub closed-depth : kind-at l n ≡ 5 → depth (program l) (suc n) ≡ suc (depth (program l) (suc (suc n)))
   closed-depth e =
       let pair : Known (program l) (suc n) (closes loop (first-at l n)) = rw (of-kind l n 5 e) at (partner l h n inside) in
       pair .1 .close-depth ∙ ap suc (sym (pair .1 .after-depth))

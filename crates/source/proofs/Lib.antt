@@ -4,3 +4,4 @@ pub mod Bounds
 pub mod Entries
 pub mod Targets
 pub mod Underway
+pub mod Checks

@@ -7,10 +7,11 @@ use Prim.Native.Nat.{ℕ, zero, suc, pred, _+_, _*_, _≤_, _<_}
 use lib.ListN.{length, getD}
 use lib.Dec.{eqb}
 use Rattle.theory.specs.Limits.{state-values, state-passes}
-use Rattle.theory.specs.Basics.{present}
+use Rattle.theory.specs.Basics.{present, all-below}
 use Rattle.theory.specs.ProgramText.{Command, plain, clear, increment, copy, opens, closes, loop, while, list-of, listed}
 use Rattle.theory.specs.Runs.{Machine, Outcome, run, within}
 use Rattle.theory.specs.Source as S
+use Rattle.theory.specs.TurnedDown.{is-value, is-passes}
 use Rattle.theory.specs.Claims.{Accepted}
 use Rattle.source.specs.Answers.{stands}
 use Rattle.source.specs.declared.Next.{Next}
@@ -137,3 +138,20 @@ run-at l capacity line vs ps allowed = run (machine-of l capacity) allowed 0 (st
 -- How it ended, the steps taken, and the state
 abbrev pub outcome-of : Stop → List ℕ → List ℕ → Outcome S.State
 outcome-of r vs ps = record { end = r .end; steps = r .taken; state = stands (r .line) vs ps }
+
+-- Rule 9
+
+unfoldable pub all-values : ℕ → ℕ → List ℕ → Bool
+all-values capacity K vs = all-below state-values (λ i. is-value capacity K i (getD vs i 0))
+
+unfoldable pub all-passes : ℕ → ℕ → List ℕ → Bool
+all-passes capacity D ps = all-below state-passes (λ d. is-passes capacity D d (getD ps d 0))
+
+-- A line of the program, or the line after its last, where the entries are filled
+pub record Deep (l entries : List ℕ) (lines line : ℕ) : Type 0 where
+  pub holds : Holds l
+  pub enters : Entered l entries
+  pub room : length (program l) ≤ length entries
+  pub lines-are : lines ≡ length (program l)
+  pub low : 0 < line
+  pub high : line ≤ suc (length (program l))

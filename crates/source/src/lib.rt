@@ -3,7 +3,9 @@ ghost use mathlib.Core.Path.{_≡_};
 ghost use Prim.Native.Nat.{ℕ, _+_, _-_, _*_, _<_, _≤_};
 ghost use lib.ListN.{length, getD, set};
 ghost use Rattle.source.specs.Answers.{fresh-state};
-ghost use Rattle.source.specs.Lines.{program, Holds, Fits, Entered, Linked, Filled, Ready, Stepped, Startable, run-at, outcome-of};
+ghost use Rattle.source.specs.Lines.{program, Holds, Fits, Entered, Linked, Filled, Ready, Stepped, Startable, run-at, outcome-of, all-values, all-passes, Deep};
+ghost use Rattle.theory.specs.Source.{depth};
+ghost use Rattle.theory.specs.TurnedDown.{is-value, is-passes};
 use theory::End;
 use theory::Refusal;
 
@@ -219,4 +221,65 @@ fn walk(
         taken += 1;
     }
     Stop { line, taken, end: End::Halted }
+}
+
+// Rule 9, of one value: within the capacity, and 0 where the program names no such variable.
+fn is_good_value(v: u32, i: usize, capacity: u32, variables: usize) -> bool
+    ensures { λ r. ⌜ r ≡ is-value capacity variables i v ⌝ }
+{
+    if i < variables { v <= capacity } else { v == 0 }
+}
+
+fn are_values(values: &[u32], capacity: u32, variables: usize) -> bool
+    requires { ⌜ length (now values) ≡ 32 ⌝ }
+    ensures { λ r. ⌜ r ≡ all-values capacity variables (now (values .entry)) ⌝ }
+{
+    let mut i = 0;
+    while i < State::VALUES {
+        if !is_good_value(values[i], i, capacity, variables) {
+            return false;
+        }
+        i += 1;
+    }
+    true
+}
+
+// Rule 9, of one entry of the passes-left: 1 to capacity for a loop around the line, 0 for any other.
+fn is_good_passes(k: u32, d: usize, capacity: u32, depth: usize) -> bool
+    ensures { λ r. ⌜ r ≡ is-passes capacity depth d k ⌝ }
+{
+    if depth <= d {
+        return k == 0;
+    }
+    if k < 1 {
+        return false;
+    }
+    k <= capacity
+}
+
+fn are_passes(passes: &[u32], capacity: u32, depth: usize) -> bool
+    requires { ⌜ length (now passes) ≡ 16 ⌝ }
+    ensures { λ r. ⌜ r ≡ all-passes capacity depth (now (passes .entry)) ⌝ }
+{
+    let mut d = 0;
+    while d < State::PASSES {
+        if !is_good_passes(passes[d], d, capacity, depth) {
+            return false;
+        }
+        d += 1;
+    }
+    true
+}
+
+// The number of loops around a line, which may be the line after the last.
+fn depth_at(list: &[u8], entries: &[u8], lines: usize, line: usize) -> usize
+    requires { ⌜ Deep (now list) (now entries) lines line ⌝ }
+    ensures { λ r. ⌜ r ≡ depth (program (now (list .entry))) line ⌝ }
+{
+    if lines < line {
+        return 0;
+    }
+    let here = line - 1;
+    let entry = entries[here] as usize;
+    if list[3 * here] == 5 { entry + 1 } else { entry }
 }

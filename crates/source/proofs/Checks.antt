@@ -1,0 +1,87 @@
+-- Rule 9 as the code checks it: a value, an entry of the passes-left, all of them, and the number of loops around the state's line.
+use mathlib.Core.Path.{_≡_, refl, sym, ap, _∙_}
+use mathlib.Core.Bool.{Bool, true, false, cond, _&&_, _||_}
+use mathlib.Core.List.{List}
+use Prim.Native.Nat.{ℕ, zero, suc, pred, _+_, _-_, _*_, _≤_, _<_}
+use native.Mathlib.Decide.{ℕ-discrete}
+use native.Mathlib.Numerals.{add-one}
+use native.Mathlib.Omega.{arith}
+use borrow.Author.Tests.{lt-ltb, le-ltb, le-leb, lt-leb, eqb-true}
+use lib.ListN.{length, getD}
+use lib.Dec.{leb, ltb, eqb}
+use Rattle.theory.specs.Basics.{all-below}
+use Rattle.theory.specs.ProgramText.{Command, plain, opens, closes, loop, while}
+use Rattle.theory.specs.Source.{depth}
+use Rattle.theory.specs.TurnedDown.{is-value, is-passes}
+use Rattle.source.specs.Lines.{program, Holds, Deep, command-at, entry-of, entry-at}
+use Rattle.source.proofs.Program.{depth-last}
+use Rattle.source.proofs.Steps.{kind-at, first-at, of-kind}
+use Rattle.source.proofs.Entries.{closed-depth, off-endloop}
+
+and-true : (b : Bool) → (b && true) ≡ b
+and-true true = refl
+and-true false = refl
+
+and-false : (b : Bool) → (b && false) ≡ false
+and-false true = refl
+and-false false = refl
+
+pub named-value : (capacity K i v : ℕ) → i < K → leb v capacity ≡ is-value capacity K i v
+named-value capacity K i v h = rw (lt-ltb i K h) (sym (and-true (leb v capacity)))
+
+pub unnamed-value : (capacity K i v : ℕ) → K ≤ i → eqb v 0 ≡ is-value capacity K i v
+unnamed-value capacity K i v h = rw (le-ltb i K h) (go (eqb v 0) refl)
+  where
+    go : (t : Bool) → eqb v 0 ≡ t → eqb v 0 ≡ (leb v capacity && eqb v 0)
+    go true e = rw (e, eqb-true v 0 e, le-leb 0 capacity (omega arith))
+    go false e = rw e (sym (and-false (leb v capacity)))
+
+pub other-passes : (capacity D d k : ℕ) → D ≤ d → eqb k 0 ≡ is-passes capacity D d k
+other-passes capacity D d k h = rw (le-ltb d D h)
+
+pub no-passes : (capacity D d k : ℕ) → d < D → k < 1 → false ≡ is-passes capacity D d k
+no-passes capacity D d k h z = rw (lt-ltb d D h, lt-leb 1 k z)
+
+pub some-passes : (capacity D d k : ℕ) → d < D → 1 ≤ k → leb k capacity ≡ is-passes capacity D d k
+some-passes capacity D d k h z = rw (lt-ltb d D h, le-leb 1 k z)
+
+-- A test of every number below n, from the first on
+pub all-one-more : (f : ℕ → Bool) (i : ℕ) → all-below i f ≡ true → f i ≡ true → all-below (i + 1) f ≡ true
+all-one-more f i h e = rw (add-one i, h) e
+
+pub all-but-one : (f : ℕ → Bool) (n i : ℕ) → i < n → f i ≡ false → all-below n f ≡ false
+all-but-one f zero i h e = absurd (omega arith)
+all-but-one f (suc n) i h e = go (ℕ-discrete i n) (all-but-one f n i)
+  where
+    go : Dec (i ≡ n) → (i < n → f i ≡ false → all-below n f ≡ false) → (all-below n f && f n) ≡ false
+    go (yes q) before = rw (← q, e) (and-false (all-below i f))
+    go (no q) before = rw (before (omega arith) e)
+
+-- The loops around a line, by its entry
+module _ (l es : List ℕ) (lines line : ℕ) (d : Deep l es lines line) where
+  pub depth-past : lines < line → 0 ≡ depth (program l) line
+  depth-past h =
+      let last : suc (length (program l)) ≡ line = omega (arith, d .lines-are, d .high) in
+      sym (rw last at (depth-last l (d .holds)))
+
+  module _ (here : line ≤ lines) where
+    abbrev m : ℕ
+    m = line - 1
+
+    inside : m < length (program l)
+    inside = omega (arith, d .lines-are, d .low)
+
+    from : line ≡ suc m
+    from = omega (arith, d .low)
+
+    pub depth-endloop : kind-at l m ≡ 5 → getD es m 0 + 1 ≡ depth (program l) line
+    unfolding entry-at
+    depth-endloop e =
+        let entry : getD es m 0 ≡ pred (depth (program l) (suc m)) = rw (of-kind l m 5 e) at (d .enters m inside) in
+        let closed : depth (program l) (suc m) ≡ suc (depth (program l) (suc (suc m))) = closed-depth l (d .holds) m inside e in
+        let all : getD es m 0 + 1 ≡ depth (program l) (suc m) = omega arith in
+        all ∙ ap (depth (program l)) (sym from)
+
+    pub depth-other : (kind-at l m ≡ 5 → ⊥) → getD es m 0 ≡ depth (program l) line
+    unfolding entry-at
+    depth-other ne = d .enters m inside ∙ (off-endloop l m ne (depth (program l) (suc m)) ∙ ap (depth (program l)) (sym from))
