@@ -2,3 +2,4 @@ pub mod Puts
 pub mod Lengths
 pub mod Places
 pub mod Starting
+pub mod Values

@@ -3,7 +3,7 @@ use mathlib.Core.Path.{_≡_, refl, sym, ap, _∙_, fun-ext}
 use mathlib.Core.Bool.{Bool, true, false}
 use mathlib.Core.Option.{none}
 use mathlib.Core.List.{List, []}
-use Prim.Native.Nat.{ℕ, zero, suc, _≤_, _<_}
+use Prim.Native.Nat.{ℕ, zero, suc, _≤_}
 use native.Mathlib.Omega.{arith}
 use lib.IntN.{pos}
 use lib.Dec.{ltb}
@@ -16,7 +16,7 @@ use Rattle.theory.specs.Source as S
 use Rattle.theory.specs.Word as W
 use Rattle.theory.specs.Word.{Symbol}
 use Rattle.theory.specs.Translation.{word-of}
-use Rattle.theory.specs.Machines.{SourceState, run-source, Memory, Position, refilled, contents, holding, is-memory, run-word}
+use Rattle.theory.specs.Machines.{SourceState, run-source, Memory, Position, refilled, contents, holding, run-word}
 use Rattle.theory.specs.RunTool.{tool-source, tool-word}
 use Rattle.theory.specs.TurnedDown.{rule-9, rule-10}
 use Rattle.theory.specs.Claims.{Accepted}
