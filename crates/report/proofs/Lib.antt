@@ -3,3 +3,5 @@ pub mod Lengths
 pub mod Places
 pub mod Starting
 pub mod Values
+pub mod Sheets
+pub mod Printing

@@ -112,7 +112,8 @@ module _ (K : ℕ) (values : List ℕ) (h : Starts K values) (store : Bytes) (le
       ap (λ registers. run (W.machine (within 1024) w) 1000000 0 (from registers)) (fun-ext held)
 
 module _ (p : List Command) (v : ℕ → ℕ) where
-  pub tool-runs : tool-word p v ≡ run (W.machine (within 1024) (word-of p)) 1000000 0 (record { place = pos 1; registers = holding (variables p) v })
+  pub tool-runs : tool-word p v
+      ≡ run (W.machine (within 1024) (word-of p)) 1000000 0 (record { place = pos 1; registers = holding (variables p) v })
   unfolding tool-word
   tool-runs = refl
 

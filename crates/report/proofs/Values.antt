@@ -36,7 +36,8 @@ start-beyond (n ∷ ns) (v ∷ vs) i h =
     rw other (start-beyond ns vs i (omega arith))
 
 -- An accepted line's values are all within the capacity
-pub values-within : (count n : ℕ) (o : Option (List ℕ)) → values-fault 1024 count n o ≡ none → all (λ v. leb v 1024) (values-or-none o) ≡ true
+pub values-within : (count n : ℕ) (o : Option (List ℕ)) → values-fault 1024 count n o ≡ none
+    → all (λ v. leb v 1024) (values-or-none o) ≡ true
 values-within count n none h = refl
 values-within count n (some vs) h =
     let last = none-second (unless (eqb (length vs) count) 16 n) (unless (all (λ v. leb v 1024) vs) 18 n) h in
