@@ -5,3 +5,4 @@ pub mod Starting
 pub mod Values
 pub mod Sheets
 pub mod Printing
+pub mod Underway
