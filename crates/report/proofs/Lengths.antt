@@ -1,8 +1,8 @@
 -- How long the parts of the report may be: a number, the name of an end, the line of a row.
 use mathlib.Core.Path.{_≡_, refl}
 use mathlib.Core.Bool.{Bool, true, false}
-use mathlib.Core.List.{[], _∷_, _++_}
-use Prim.Native.Nat.{ℕ, zero, suc, _+_, _*_, _/_, _%_, _^_, _≤_, _<_}
+use mathlib.Core.List.{[], _∷_}
+use Prim.Native.Nat.{ℕ, zero, suc, _+_, _/_, _%_, _^_, _≤_, _<_}
 use native.Mathlib.Nat.{div-lt-iff-lt-mul, pow-suc}
 use native.Mathlib.Omega.{arith}
 use lib.Dec.{ltb}
@@ -16,7 +16,9 @@ use Rattle.theory.proofs.Numerals.{decimal-small, decimal-large}
 
 pub decimal-short : (k n : ℕ) → n < 10 ^ suc k → length (decimal n) ≤ suc k
 decimal-short zero n h = rw (decimal-small n h) (omega arith)
-decimal-short (suc k) n h = go (ltb n 10) refl (decimal-short k (n / 10) (div-lt-iff-lt-mul (omega arith) .1 (rw (pow-suc 10 (suc k)) at h)))
+decimal-short (suc k) n h =
+    let tenth : n / 10 < 10 ^ suc k = div-lt-iff-lt-mul (omega arith) .1 (rw (pow-suc 10 (suc k)) at h) in
+    go (ltb n 10) refl (decimal-short k (n / 10) tenth)
   where
     go : (t : Bool) → ltb n 10 ≡ t → length (decimal (n / 10)) ≤ suc k → length (decimal n) ≤ suc (suc k)
     go true e f = rw (decimal-small n (ltb-true n 10 e)) (omega arith)
