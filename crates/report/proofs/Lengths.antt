@@ -17,7 +17,7 @@ use Rattle.theory.proofs.Numerals.{decimal-small, decimal-large}
 pub decimal-short : (k n : ℕ) → n < 10 ^ suc k → length (decimal n) ≤ suc k
 decimal-short zero n h = rw (decimal-small n h) (omega arith)
 decimal-short (suc k) n h =
-    let tenth : n / 10 < 10 ^ suc k = div-lt-iff-lt-mul (omega arith) .1 (rw (pow-suc 10 (suc k)) at h) in
+    let tenth : n / 10 < 10 ^ suc k = div-lt-iff-lt-mul {k = 10} {x = n} {y = 10 ^ suc k} (omega arith) .1 (rw (pow-suc 10 (suc k)) at h) in
     go (ltb n 10) refl (decimal-short k (n / 10) tenth)
   where
     go : (t : Bool) → ltb n 10 ≡ t → length (decimal (n / 10)) ≤ suc k → length (decimal n) ≤ suc (suc k)

@@ -87,7 +87,8 @@ put-decimal-same-length-2 : (t : ℕ) → put-decimal-lts.Need-same-length-2 (
   put-decimal.Post,
 ) (put-decimal-at t) put-decimal.Post
 put-decimal-same-length-2 t c =
-    put-length (put-then (c .before .before .before .before .before .before .put-decimal .ensures .put) (c .before .before .put-digit2 .ensures))
+    let tenth = c .before .before .before .before .before .before .put-decimal .ensures .put in
+    put-length (put-then tenth (c .before .before .put-digit2 .ensures))
 
 put-decimal-returns-2 : (t : ℕ) → put-decimal-lts.Need-returns-2 (
   put-digit-reads.Asked,
