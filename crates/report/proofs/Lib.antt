@@ -1,3 +1,4 @@
 pub mod Puts
 pub mod Lengths
 pub mod Places
+pub mod Starting

@@ -20,7 +20,7 @@ one-at m zero i h = absurd (omega arith)
 one-at m (suc n) zero h = refl
 one-at m (suc n) (suc i) h = one-at m n i (omega arith)
 
-zeros-at : (m i : ℕ) → _≡_ {A = ℕ} 0 (getD (replicate m 0) i 0)
+pub zeros-at : (m i : ℕ) → _≡_ {A = ℕ} 0 (getD (replicate m 0) i 0)
 zeros-at zero i = refl
 zeros-at (suc m) zero = refl
 zeros-at (suc m) (suc i) = zeros-at m i
