@@ -1,8 +1,8 @@
 -- How long the parts of the report may be: a number, the name of an end, the line of a row.
 use mathlib.Core.Path.{_≡_, refl}
 use mathlib.Core.Bool.{Bool, true, false}
-use mathlib.Core.List.{[], _∷_, _++_}
-use Prim.Native.Nat.{ℕ, zero, suc, _+_, _*_, _/_, _%_, _^_, _≤_, _<_}
+use mathlib.Core.List.{[], _∷_}
+use Prim.Native.Nat.{ℕ, zero, suc, _+_, _/_, _%_, _^_, _≤_, _<_}
 use native.Mathlib.Nat.{div-lt-iff-lt-mul, pow-suc}
 use native.Mathlib.Omega.{arith}
 use lib.Dec.{ltb}
@@ -12,11 +12,16 @@ use Rattle.theory.specs.Text.{decimal}
 use Rattle.theory.specs.RunTool.{end-name}
 use Rattle.theory.specs.declared.End.{End}
 use Rattle.theory.specs.declared.End.the-variants.{Halted, Strayed, Spent, Full}
+use Rattle.theory.specs.declared.Refusal.{Refusal}
+use Rattle.report.specs.declared.writing.Row.{Row}
+use Rattle.report.specs.Puts.{row-line, refusal-line, Within}
 use Rattle.theory.proofs.Numerals.{decimal-small, decimal-large}
 
 pub decimal-short : (k n : ℕ) → n < 10 ^ suc k → length (decimal n) ≤ suc k
 decimal-short zero n h = rw (decimal-small n h) (omega arith)
-decimal-short (suc k) n h = go (ltb n 10) refl (decimal-short k (n / 10) (div-lt-iff-lt-mul (omega arith) .1 (rw (pow-suc 10 (suc k)) at h)))
+decimal-short (suc k) n h =
+    let tenth : n / 10 < 10 ^ suc k = div-lt-iff-lt-mul {k = 10} {x = n} {y = 10 ^ suc k} (omega arith) .1 (rw (pow-suc 10 (suc k)) at h) in
+    go (ltb n 10) refl (decimal-short k (n / 10) tenth)
   where
     go : (t : Bool) → ltb n 10 ≡ t → length (decimal (n / 10)) ≤ suc k → length (decimal n) ≤ suc (suc k)
     go true e f = rw (decimal-small n (ltb-true n 10 e)) (omega arith)
@@ -31,3 +36,16 @@ end-short Halted = omega arith
 end-short Strayed = omega arith
 end-short Spent = omega arith
 end-short Full = omega arith
+
+pub row-short : (r : Row) → Within r → length (row-line r) ≤ 36
+unfolding row-line
+row-short r h =
+    let source : length (decimal (r .source .steps)) ≤ 6 = decimal-short 5 (r .source .steps) (omega (arith, h .source)) in
+    let word : length (decimal (r .word .steps)) ≤ 7 = decimal-short 6 (r .word .steps) (omega (arith, h .word)) in
+    let first : length (decimal (r .first)) ≤ 4 = decimal-short 3 (r .first) (omega (arith, h .first)) in
+    simp length-append (omega (arith, end-short (r .source .end), end-short (r .word .end)))
+
+pub refusal-short : (r : Refusal) → r .number < 2 ^ 64 → r .place < 2 ^ 64 → length (refusal-line r) ≤ 50
+unfolding refusal-line
+refusal-short r number place =
+    simp length-append (omega (arith, decimal-fits (r .number) number, decimal-fits (r .place) place))

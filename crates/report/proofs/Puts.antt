@@ -1,7 +1,7 @@
 -- Texts put one after another are their join put at once, and the bounds on what is put.
 use mathlib.Core.Path.{_≡_, refl, sym, ap, _∙_}
 use mathlib.Core.List.{[], _∷_, _++_, append-assoc}
-use Prim.Native.Nat.{ℕ, zero, suc, _+_, _<_, _≤_}
+use Prim.Native.Nat.{ℕ, suc, _+_, _<_, _≤_}
 use native.Mathlib.Nat.{add-zero}
 use native.Mathlib.Numerals.{add-one}
 use native.Mathlib.Omega.{arith}
@@ -42,7 +42,8 @@ put-next text place i l m n k h a b =
     rw (← next, add-one i, take-suc text i 0 h) both
 
 -- A short text after a short text
-pub few-then : {a b most : ℕ} {u v : Bytes} {i j k : ℕ} {l m n : Bytes} → a + b ≤ most → Few a u i l m j → Few b v j m n k → Few most (u ++ v) i l n k
+pub few-then : {a b most : ℕ} {u v : Bytes} {i j k : ℕ} {l m n : Bytes} → a + b ≤ most
+    → Few a u i l m j → Few b v j m n k → Few most (u ++ v) i l n k
 few-then h f g = record { put = put-then (f .put) (g .put); few = omega (arith, f .few, g .few) }
 
 pub few-byte : {b i k : ℕ} {l n : Bytes} → Put (b ∷ []) i l n k → Few 1 (b ∷ []) i l n k

@@ -1,6 +1,6 @@
 -- What a text put into a lent output comes to, and the line of one run.
 use mathlib.Core.Path.{_≡_}
-use mathlib.Core.List.{List, [], _∷_, _++_}
+use mathlib.Core.List.{[], _∷_, _++_}
 use Prim.Native.Nat.{ℕ, _+_, _≤_}
 use lib.ListN.{length}
 use lib.Seq.{sets}
@@ -31,7 +31,8 @@ ended run = end-name (run .end) ++ (blank ∷ field (run .steps) blank)
 -- The line of a row
 unfoldable pub row-line : Row → Bytes
 row-line r =
-    line-of (end-name (r .source .end) ∷ decimal (r .source .steps) ∷ end-name (r .word .end) ∷ decimal (r .word .steps) ∷ decimal (r .first) ∷ [])
+    line-of
+    (end-name (r .source .end) ∷ decimal (r .source .steps) ∷ end-name (r .word .end) ∷ decimal (r .word .steps) ∷ decimal (r .first) ∷ [])
 
 -- "On a refusal it prints only `refused`, the number and the place, with single blanks"
 unfoldable pub refusal-line : Refusal → Bytes

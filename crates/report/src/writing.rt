@@ -1,5 +1,5 @@
-// The parts of the report, each put into an output from a place on. A byte that has no place in the output is counted and not written, so that
-// an output without a byte serves to measure.
+// The parts of the report, each put into an output from a place on. A byte that has no place in the output is counted and not written,
+// so that an output without a byte serves to measure.
 use theory::End;
 use theory::Refusal;
 ghost use mathlib.Core.List.{[], _∷_};

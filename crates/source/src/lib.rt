@@ -123,7 +123,14 @@ fn fill_targets(list: &[u8], lines: usize, targets: &mut [u16])
 }
 
 // A step at a line of a pair.
-fn jump(list: &[u8], targets: &[u16], entries: &[u8], line: u32, values: &[u32], passes: &mut [u32]) -> Next
+fn jump(
+    list: &[u8],
+    targets: &[u16],
+    entries: &[u8],
+    line: u32,
+    values: &[u32],
+    passes: &mut [u32],
+) -> Next
     requires { ⌜ Ready (now list) (now targets) (now entries) line (now values) (now passes) × (3 < getD (now list) (3 * (line - 1)) 0) ⌝ }
     ensures { λ r. ⌜ ((capacity : ℕ) → Stepped (program (now (list .entry))) capacity line (now (values .entry)) (now (passes .entry)) r (now (values .entry)) (now (passes .exit))) ⌝ }
 {
@@ -160,7 +167,15 @@ fn jump(list: &[u8], targets: &[u16], entries: &[u8], line: u32, values: &[u32],
 }
 
 // A step at a line of the program: the next line, or full. A full step changes nothing.
-fn step(list: &[u8], targets: &[u16], entries: &[u8], capacity: u32, line: u32, values: &mut [u32], passes: &mut [u32]) -> Next
+fn step(
+    list: &[u8],
+    targets: &[u16],
+    entries: &[u8],
+    capacity: u32,
+    line: u32,
+    values: &mut [u32],
+    passes: &mut [u32],
+) -> Next
     requires { ⌜ Ready (now list) (now targets) (now entries) line (now values) (now passes) ⌝ }
     ensures { λ r. ⌜ Stepped (program (now (list .entry))) capacity line (now (values .entry)) (now (passes .entry)) r (now (values .exit)) (now (passes .exit)) ⌝ }
 {
@@ -212,15 +227,27 @@ fn walk(
     let mut taken = 0;
     while line <= last {
         if taken == allowed {
-            return Stop { line, taken, end: End::Spent };
+            return Stop {
+                line,
+                taken,
+                end: End::Spent,
+            };
         }
         match step(list, targets, entries, capacity, line, values, passes) {
             Next::At(next) => line = next,
-            Next::Full => return Stop { line, taken, end: End::Full },
+            Next::Full => return Stop {
+                line,
+                taken,
+                end: End::Full,
+            },
         }
         taken += 1;
     }
-    Stop { line, taken, end: End::Halted }
+    Stop {
+        line,
+        taken,
+        end: End::Halted,
+    }
 }
 
 // Rule 9, of one value: within the capacity, and 0 where the program names no such variable.

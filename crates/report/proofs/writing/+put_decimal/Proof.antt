@@ -77,7 +77,8 @@ put-decimal-returns : (t : ℕ) → put-decimal-lts.Need-returns (
 put-decimal-returns t c =
     let start = c .before .before .before .before .before .before in
     let small : start .args .n < 10 = c .before .before .before .before .if1 .taken in
-    few-digits (start .args .n) (start .fits .n .fits) (rw (decimal-small (start .args .n) small) (c .before .before .put-digit .ensures))
+    let put = c .before .before .put-digit .ensures in
+    few-digits (start .args .n) (start .fits .n .fits) (rw (decimal-small (start .args .n) small) put)
 
 put-decimal-same-length-2 : (t : ℕ) → put-decimal-lts.Need-same-length-2 (
   put-digit-reads.Asked,
@@ -86,7 +87,8 @@ put-decimal-same-length-2 : (t : ℕ) → put-decimal-lts.Need-same-length-2 (
   put-decimal.Post,
 ) (put-decimal-at t) put-decimal.Post
 put-decimal-same-length-2 t c =
-    put-length (put-then (c .before .before .before .before .before .before .put-decimal .ensures .put) (c .before .before .put-digit2 .ensures))
+    let tenth = c .before .before .before .before .before .before .put-decimal .ensures .put in
+    put-length (put-then tenth (c .before .before .put-digit2 .ensures))
 
 put-decimal-returns-2 : (t : ℕ) → put-decimal-lts.Need-returns-2 (
   put-digit-reads.Asked,
@@ -98,7 +100,8 @@ put-decimal-returns-2 t c =
     let start = c .before .before .before .before .before .before .before .before .before .before in
     let large : 10 ≤ start .args .n = omega arith in
     let tenth : _ = c .before .before .before .before .before .before .put-decimal .ensures .put in
-    few-digits (start .args .n) (start .fits .n .fits) (rw (decimal-large (start .args .n) large) (put-then tenth (c .before .before .put-digit2 .ensures)))
+    let put = put-then tenth (c .before .before .put-digit2 .ensures) in
+    few-digits (start .args .n) (start .fits .n .fits) (rw (decimal-large (start .args .n) large) put)
 
 pub +put-decimal-spec : {M : Type 1} → statement M
 +put-decimal-spec =

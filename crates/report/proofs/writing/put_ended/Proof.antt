@@ -22,8 +22,10 @@ same-length c = search needs
 
 returns : tie.Need-returns
 returns c =
-    let steps = few-then {most = 22} (omega arith) (few-byte (c .before .before .before .before .before .before .before .put-byte .ensures)) (c .before .before .put-field .ensures) in
-    few-then (omega arith) (c .before .before .before .before .before .before .before .before .before .before .before .put-end .ensures) steps
+    let at-blank = c .before .before .before .before .before .before .before in
+    let at-end = at-blank .before .before .before .before in
+    let steps = few-then {most = 22} (omega arith) (few-byte (at-blank .put-byte .ensures)) (c .before .before .put-field .ensures) in
+    few-then (omega arith) (at-end .put-end .ensures) steps
 
 pub put-ended-spec : {M : Type 1} → statement M
 put-ended-spec =

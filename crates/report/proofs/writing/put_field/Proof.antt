@@ -15,7 +15,9 @@ same-length : tie.Need-same-length
 same-length c = search needs
 
 returns : tie.Need-returns
-returns c = few-then (omega arith) (c .before .before .before .before .before .before .put-decimal .ensures) (few-byte (c .before .before .put-byte .ensures))
+returns c =
+    let number = c .before .before .before .before .before .before .put-decimal .ensures in
+    few-then (omega arith) number (few-byte (c .before .before .put-byte .ensures))
 
 pub put-field-spec : {M : Type 1} → statement M
 put-field-spec = tie.close (tie.spec put-decimal-requires put-byte-requires same-length returns)

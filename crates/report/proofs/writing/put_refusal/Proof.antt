@@ -24,8 +24,11 @@ same-length c = search needs
 
 returns : tie.Need-returns
 returns c =
-    let rest = put-then (c .before .before .before .before .before .before .put-field .ensures .put) (c .before .before .put-field2 .ensures .put) in
-    rw (refusal-parts (c .before .before .before .before .before .before .before .before .before .before .before .before .before .before .before .args .refusal)) (put-then (c .before .before .before .before .before .before .before .before .before .before .before .put-text .ensures) rest)
+    let at-number = c .before .before .before .before .before .before in
+    let at-text = at-number .before .before .before .before .before in
+    let start = at-text .before .before .before .before in
+    let rest = put-then (at-number .put-field .ensures .put) (c .before .before .put-field2 .ensures .put) in
+    rw (refusal-parts (start .args .refusal)) (put-then (at-text .put-text .ensures) rest)
 
 pub put-refusal-spec : {M : Type 1} → statement M
 put-refusal-spec =

@@ -21,8 +21,11 @@ same-length c = search needs
 
 returns : tie.Need-returns
 returns c =
-    let rest = put-then (c .before .before .before .before .before .before .before .put-ended2 .ensures .put) (c .before .before .put-field .ensures .put) in
-    rw (row-parts (c .before .before .before .before .before .before .before .before .before .before .before .before .before .before .before .before .args .row)) (put-then (c .before .before .before .before .before .before .before .before .before .before .before .put-ended .ensures .put) rest)
+    let at-word = c .before .before .before .before .before .before .before in
+    let at-source = at-word .before .before .before .before in
+    let start = at-source .before .before .before .before .before in
+    let rest = put-then (at-word .put-ended2 .ensures .put) (c .before .before .put-field .ensures .put) in
+    rw (row-parts (start .args .row)) (put-then (at-source .put-ended .ensures .put) rest)
 
 pub put-row-spec : {M : Type 1} → statement M
 put-row-spec =

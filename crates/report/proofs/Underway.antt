@@ -1,0 +1,97 @@
+-- The report while its rows are written: what is put so far and the rows of the lines that are left are the whole text.
+use mathlib.Core.Path.{_≡_, refl, sym, ap, subst, _∙_}
+use mathlib.Core.Option.{Option, none}
+use mathlib.Core.List.{List, [], _∷_, _++_, append-assoc, append-nil}
+use Prim.Native.Nat.{ℕ, suc, _+_, _*_, _≤_, _<_}
+use native.Mathlib.Numerals.{add-one}
+use native.Mathlib.Omega.{arith}
+use lib.ListN.{length, drop, drop-of-length-le}
+use Rattle.theory.specs.Text.{Bytes, split-lines}
+use Rattle.theory.specs.ProgramText.{Command}
+use Rattle.theory.specs.RunSheet.{values}
+use Rattle.theory.specs.TurnedDown.{values-fault, rows-fault, names-of}
+use Rattle.theory.specs.RunTool.{header, row, rows, rows-of}
+use Rattle.theory.specs.declared.Refusal.{Refusal}
+use Rattle.theory.proofs.Faults.{none-first, none-second}
+use Rattle.report.specs.Puts.{Put}
+use Rattle.report.specs.Rows.{Printed}
+use Rattle.report.proofs.Puts.{put-then}
+use Rattle.report.proofs.Sheets.{Sheet}
+
+-- The names of a sheet, and its lines from a byte on
+abbrev pub columns : Bytes → List ℕ
+columns s = names-of (split-lines s)
+
+abbrev pub lines-from : Bytes → ℕ → List Bytes
+lines-from s at = split-lines (drop at s)
+
+-- The next row begins at byte `at`, as line n of the sheet
+pub record Writing (p : List Command) (s before : Bytes) (at n place : ℕ) (out : Bytes) : Type 0 where
+  pub inside : at ≤ length s
+  pub text : Bytes
+  pub put : Put text 0 before out place
+  pub whole : text ++ rows p (columns s) (lines-from s at) ≡ header ++ rows-of p (split-lines s)
+  pub passes : rows-fault 1024 (length (columns s)) n (lines-from s at) ≡ none
+  pub few : place ≤ 11 + 36 * at
+  pub counted : n ≤ at + 1
+
+rows-after : (p : List Command) (ls : List Bytes) (l : Bytes) (rest : List Bytes) → ls ≡ l ∷ rest → rows-of p ls ≡ rows p (names-of ls) rest
+rows-after p ls l rest e = subst (λ m. rows-of p m ≡ rows p (names-of m) rest) (sym e) refl
+
+module _ (p : List Command) (s before : Bytes) where
+  -- The whole text
+  abbrev Whole : Bytes → Type 0
+  Whole t = t ≡ header ++ rows-of p (split-lines s)
+
+  pub writing-start : (K at place : ℕ) (l out : Bytes) → Sheet K s → split-lines s ≡ l ∷ lines-from s at → 1 ≤ at → at ≤ length s
+      → Put header 0 before out place → Writing p s before at 2 place out
+  writing-start K at place l out sheet e some inside put =
+      let same : lines-from s at ≡ sheet .rest = cc (sheet .lines) in
+      let all : rows-of p (split-lines s) ≡ rows p (columns s) (lines-from s at) = rows-after p (split-lines s) l (lines-from s at) e in
+      record {
+        inside = inside;
+        text = header;
+        put = put;
+        whole = ap {B = Bytes} (λ t. header ++ t) (sym all);
+        passes = subst (λ ls. rows-fault 1024 (length (columns s)) 2 ls ≡ none) (sym same) (sheet .rows);
+        few = omega (arith, put .counted);
+        counted = omega arith;
+      }
+
+  module _ (at n place next : ℕ) (l out : Bytes) (w : Writing p s before at n place out)
+      (e : lines-from s at ≡ l ∷ lines-from s next) where
+    passing : rows-fault 1024 (length (columns s)) n (l ∷ lines-from s next) ≡ none
+    passing = subst (λ ls. rows-fault 1024 (length (columns s)) n ls ≡ none) e (w .passes)
+
+    abbrev later : Option Refusal
+    later = rows-fault 1024 (length (columns s)) (suc n) (lines-from s next)
+
+    pub line-passes : values-fault 1024 (length (columns s)) n (values l) ≡ none
+    unfolding rows-fault
+    line-passes = none-first (values-fault 1024 (length (columns s)) n (values l)) later passing
+
+    pub writing-next : (out′ : Bytes) (place′ : ℕ) → at < next → next ≤ length s → length (row p (columns s) l) ≤ 36
+        → Put (row p (columns s) l) place out out′ place′ → Writing p s before next (n + 1) place′ out′
+    unfolding rows rows-fault
+    writing-next out′ place′ more inside short put =
+        let line = row p (columns s) l in
+        let left = rows p (columns s) (lines-from s next) in
+        let split : Whole (w .text ++ (line ++ left)) = subst (λ ls. Whole (w .text ++ rows p (columns s) ls)) e (w .whole) in
+        record {
+          inside = inside;
+          text = w .text ++ line;
+          put = put-then (w .put) put;
+          whole = append-assoc (w .text) line left ∙ split;
+          passes = rw (add-one n) (none-second (values-fault 1024 (length (columns s)) n (values l)) later passing);
+          few = omega (arith, put .counted, w .few);
+          counted = omega (arith, w .counted);
+        }
+
+  pub writing-end : (at n place : ℕ) (out : Bytes) → Writing p s before at n place out → length s ≤ at → length s ≤ 4096
+      → Printed (header ++ rows-of p (split-lines s)) before out place
+  unfolding rows split-lines
+  writing-end at n place out w end size =
+      let none-left : lines-from s at ≡ [] = ap split-lines (drop-of-length-le s {i = at} end) in
+      let rest : Whole (w .text ++ []) = subst (λ ls. Whole (w .text ++ rows p (columns s) ls)) none-left (w .whole) in
+      let all : Whole (w .text) = sym (append-nil (w .text)) ∙ rest in
+      record { put = subst (λ t. Put t 0 before out place) all (w .put); few = omega (arith, w .few, w .inside) }

@@ -1,0 +1,47 @@
+-- What a row of the report is, by the definitions of crate theory, and what the functions inside this crate take for granted.
+use mathlib.Core.Path.{_≡_}
+use mathlib.Core.List.{List, _++_}
+use Prim.Native.Nat.{ℕ, _≤_}
+use Rattle.theory.specs.Basics.{present}
+use Rattle.theory.specs.Text.{Bytes, split-lines}
+use Rattle.theory.specs.ProgramText.{Command, variables, listed}
+use Rattle.theory.specs.Runs.{Outcome}
+use Rattle.theory.specs.Source as S
+use Rattle.theory.specs.Word as W
+use Rattle.theory.specs.Translation.{word-text}
+use Rattle.theory.specs.TurnedDown.{done, answer, read-list}
+use Rattle.theory.specs.RunTool.{tool-source, tool-word, header, rows-of, tool-fault, printed}
+use Rattle.report.specs.declared.writing.Row.{Row}
+use Rattle.report.specs.Puts.{Put, Within}
+
+-- The commands of a list
+abbrev pub commands : Bytes → List Command
+commands list = present (listed list)
+
+-- What is printed of the two runs of a line
+unfoldable pub row-of : Outcome S.State → Outcome W.State → Row
+row-of s w = record {
+  source = record { end = s .end; steps = s .steps };
+  word = record { end = w .end; steps = w .steps };
+  first = s .state .values 0;
+}
+
+-- A list that is accepted, the word of its program, and the number of its variables
+pub record Ready (list word : Bytes) (K : ℕ) : Type 0 where
+  pub accepted : read-list list ≡ done (commands list)
+  pub translated : word ≡ word-text (commands list)
+  pub named : K ≡ variables (commands list)
+
+-- The row of a program's runs from v
+pub record Ran (p : List Command) (v : ℕ → ℕ) (r : Row) : Type 0 where
+  pub row : r ≡ row-of (tool-source p v) (tool-word p v)
+  pub within : Within r
+
+-- What is printed for a program that is accepted
+unfoldable pub program-report : List Command → Bytes → Bytes
+program-report p sheet = printed (answer (tool-fault p sheet) (header ++ rows-of p (split-lines sheet)))
+
+-- The header and a line for each run, of 147,467 bytes at most: a sheet of 4,096 bytes has 4,095 runs at most, and a line 36 bytes
+pub record Printed (text : Bytes) (before after : Bytes) (length : ℕ) : Type 0 where
+  pub put : Put text 0 before after length
+  pub few : length ≤ 147467
