@@ -1,5 +1,13 @@
 // Sizes of a block and of a line or pair, by two functions that call each other. A block goes through its lines and pairs in a loop, so that calls are
 // nested no deeper than pairs.
+ghost use mathlib.Core.Path.{_≡_};
+ghost use mathlib.Core.Bool.{true};
+ghost use Prim.Native.Nat.{ℕ, _+_, _*_, _≤_, _<_};
+ghost use lib.ListN.{length};
+ghost use Rattle.theory.specs.Translation.{plain-code};
+ghost use Rattle.translation.specs.Pieces.{plain-of, kind-of, Small};
+ghost use Rattle.translation.specs.Sites.{Site, block-at, goes-on, first, weight, Counted, Counts, Roomy, Around, join};
+use crate::lines;
 use crate::pieces;
 
 // So many instructions and symbols, and the line after what was counted, from 0.
@@ -9,63 +17,72 @@ pub struct Extent {
     pub next: usize,
 }
 
-// Whether a line or a pair begins at this line: neither the end of the list nor a closing line.
-pub fn begins(list: &[u8], lines: usize, at: usize) -> bool
+// A plain line, at line `at`.
+fn line_size(line: lines::Line, variables: usize, at: usize) -> Extent
+    requires { ⌜ Small line variables × (weight (plain-code variables (plain-of line)) ≤ 325120) × (at < 512) ⌝ }
+    ensures { λ r. ⌜ Counted (plain-code variables (plain-of line)) (at + 1) r ⌝ }
 {
-    if at < lines {
-        let kind = list[3 * at];
-        match kind {
-            5 => false,
-            7 => false,
-            _ => true,
-        }
-    } else {
-        false
+    let piece = pieces::plain_line(line, variables);
+    Extent {
+        instructions: piece.count,
+        symbols: pieces::symbols(piece),
+        next: at + 1,
     }
 }
 
-fn joined(a: Extent, b: Extent) -> Extent
+// A body, with what stands before and after it, of a pair that the line opens inside `depth` loops.
+fn around(line: lines::Line, variables: usize, depth: usize, body: Extent) -> Extent
+    requires { ⌜ Small line variables × (depth ≤ 16) × Roomy variables depth line body ⌝ }
+    ensures { λ r. ⌜ Around variables depth line body r ⌝ }
 {
-    Extent { instructions: a.instructions + b.instructions, symbols: a.symbols + b.symbols, next: b.next }
-}
-
-// A body, with what stands before and after it.
-fn around(body: Extent, before: pieces::Piece, after: pieces::Piece) -> Extent
-{
+    let m = body.instructions;
+    let before = pieces::before_body(line, variables, depth, m);
+    let after = pieces::after_body(line.kind, m);
     Extent {
-        instructions: before.count + body.instructions + after.count,
+        instructions: before.count + m + after.count,
         symbols: pieces::symbols(before) + body.symbols + pieces::symbols(after),
         next: body.next + 1,
     }
 }
 
-fn line_size(piece: pieces::Piece, at: usize) -> Extent
+fn joined(a: Extent, b: Extent) -> Extent
+    requires { ⌜ (a .instructions + b .instructions ≤ 6144) × (a .symbols + b .symbols ≤ 325120) ⌝ }
+    ensures { λ r. ⌜ r ≡ join a b ⌝ }
 {
-    Extent { instructions: piece.count, symbols: pieces::symbols(piece), next: at + 1 }
+    Extent {
+        instructions: a.instructions + b.instructions,
+        symbols: a.symbols + b.symbols,
+        next: b.next,
+    }
 }
 
+// The block that begins at line `at`, inside `depth` loops.
 pub fn block_size(list: &[u8], lines: usize, variables: usize, depth: usize, at: usize) -> Extent
+    requires { ⌜ Site (now list) lines variables depth at ⌝ }
+    ensures { λ r. ⌜ Counts variables depth at (block-at (now (list .entry)) at) r ⌝ }
 {
-    let mut sum = Extent { instructions: 0, symbols: 0, next: at };
-    let mut next = at;
-    while begins(list, lines, next) {
-        let item = pair_size(list, lines, variables, depth, next);
-        next = item.next;
-        sum = joined(sum, item);
+    let mut sum = Extent {
+        instructions: 0,
+        symbols: 0,
+        next: at,
+    };
+    while lines::begins(list, lines, sum.next) {
+        sum = joined(sum, pair_size(list, lines, variables, depth, sum.next));
     }
     sum
 }
 
-pub fn pair_size(list: &[u8], lines: usize, variables: usize, depth: usize, at: usize) -> Extent
+// Its first line or pair.
+fn pair_size(list: &[u8], lines: usize, variables: usize, depth: usize, at: usize) -> Extent
+    requires { ⌜ Site (now list) lines variables depth at × (goes-on (block-at (now list) at) ≡ true) ⌝ }
+    ensures { λ r. ⌜ Counts variables depth at (first (block-at (now (list .entry)) at)) r ⌝ }
 {
-    let kind = list[3 * at];
-    let index = pieces::wide(list[3 * at + 1]);
-    if kind <= 3 {
-        let source = pieces::wide(list[3 * at + 2]);
-        line_size(pieces::plain_line(kind, index, source, variables), at)
+    let line = lines::line_at(list, at);
+    if line.kind <= 3 {
+        line_size(line, variables, at)
     } else {
-        let body = block_size(list, lines, variables, pieces::deeper(kind, depth), at + 1);
-        let m = body.instructions;
-        around(body, pieces::before_body(kind, index, variables, depth, m), pieces::after_body(kind, m))
+        let inner = pieces::deeper(line.kind, depth);
+        let body = block_size(list, lines, variables, inner, at + 1);
+        around(line, variables, depth, body)
     }
 }
