@@ -1,0 +1,4 @@
+pub mod Counting
+pub mod Sites
+pub mod Tables
+pub mod Walks

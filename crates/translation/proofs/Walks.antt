@@ -1,0 +1,182 @@
+-- A walk through a block, one line or pair at a time: its code is that of what was passed and of what remains; and the code of the line or
+-- pair at a site, by the numbers of its line.
+use mathlib.Core.Path.{_≡_, refl, sym, ap, ap₂, _∙_}
+use mathlib.Core.Bool.{true, false, true≢false}
+use mathlib.Core.List.{List, [], _∷_, _++_, append-assoc, append-nil}
+use Prim.Native.Nat.{ℕ, _+_, _*_, _≤_, _<_}
+use native.Mathlib.Omega.{arith}
+use lib.ListN.{length, length-append}
+use Rattle.theory.specs.ProgramText.{Plain, clear, increment, copy, Kind, loop, while, Command, plain, opens, closes, variables}
+use Rattle.theory.specs.ProgramText.{Block, end, line, pair, lines}
+use Rattle.theory.specs.Source.{deeper}
+use Rattle.theory.specs.Word.{Instruction}
+use Rattle.theory.specs.Translation.{plain-code, before-body, after-body, code}
+use Rattle.theory.proofs.Sizes.{weight-append}
+use Rattle.translation.specs.Pieces.{numbers-at, Says, plain-of, kind-of, Small}
+use Rattle.translation.specs.Sites.{block-at, goes-on, first, rest, Site, weight, Counted, Counts, Around, Roomy}
+use Rattle.translation.specs.Sites as S
+use Rattle.translation.specs.declared.lines.Line.{Line}
+use Rattle.translation.specs.declared.sizes.Extent.{Extent}
+use Rattle.translation.proofs.Tables.{plain-says, kind-says}
+use Rattle.translation.proofs.Sites.{Bounds, bounds, Stands, body-site, rest-site, Plainly, Paired, plain-here, pair-here, numbers-count}
+
+code-first : (K d : ℕ) (b : Block) → code K d b ≡ code K d (first b) ++ code K d (rest b)
+unfolding code
+code-first K d end = refl
+code-first K d (line c b) = rw (append-nil (plain-code K c))
+code-first K d (pair k i body b) =
+    let inner : List Instruction = code K (deeper k d) body in
+    sym (append-assoc (before-body K d k i (length inner)) _ _ ∙ ap (λ w. before-body K d k i (length inner) ++ w) (append-assoc inner _ _))
+
+lines-first : (b : Block) → length (lines b) ≡ length (lines (first b)) + length (lines (rest b))
+lines-first end = refl
+lines-first (line c b) = omega arith
+lines-first (pair k i body b) =
+    omega (arith, length-append (lines body) (closes k i ∷ lines b), length-append (lines body) (closes k i ∷ []))
+
+-- From line `at` to line `next` of one block, with the code of what was passed
+pub record Passed (list : List ℕ) (count K d at next : ℕ) (w : List Instruction) : Type 0 where
+  pub site : Site list count K d next
+  pub onward : at ≤ next
+  pub code : code K d (block-at list at) ≡ w ++ code K d (block-at list next)
+  pub line : next + length (lines (block-at list next)) ≡ at + length (lines (block-at list at))
+
+module _ (list : List ℕ) (count K d at : ℕ) where
+  pub passed-none : Site list count K d at → Passed list count K d at at []
+  passed-none s = record { site = s; onward = omega arith; code = refl; line = refl }
+
+  pub passed-more : (next n : ℕ) (w : List Instruction) → Passed list count K d at next w
+      → n ≡ next + length (lines (first (block-at list next)))
+      → Passed list count K d at n (w ++ code K d (first (block-at list next)))
+  passed-more next n w p e =
+      let b : Block = block-at list next in
+      let r : Stands list count K d n (rest b) = rest-site list count K d next n (p .site) e in
+      record {
+        site = r .site;
+        onward = omega (arith, p .onward);
+        code = p .code ∙ (ap (λ u. w ++ u) (code-first K d b ∙ ap (λ x. code K d (first b) ++ code K d x) (sym (r .block))) ∙ sym (append-assoc w _ _));
+        line = omega (arith, p .line, lines-first b, ap (λ x. length (lines x)) (r .block));
+      }
+
+  nothing-left : (b : Block) → goes-on b ≡ false → b ≡ end
+  nothing-left end e = refl
+  nothing-left (line c b) e = absurd (true≢false e)
+  nothing-left (pair k i body b) e = absurd (true≢false e)
+
+  pub record All (next : ℕ) (w : List Instruction) : Type 0 where
+    pub code : w ≡ code K d (block-at list at)
+    pub line : next ≡ at + length (lines (block-at list at))
+
+  pub passed-all : (next : ℕ) (w : List Instruction) → Passed list count K d at next w → goes-on (block-at list next) ≡ false → All next w
+  unfolding code
+  passed-all next w p g =
+      let e : block-at list next ≡ end = nothing-left (block-at list next) g in
+      record {
+        code = sym (p .code ∙ (ap (λ x. w ++ code K d x) e ∙ append-nil w));
+        line = omega (arith, p .line, ap (λ x. length (lines x)) e);
+      }
+
+-- The line or pair at a site, by the numbers of its line
+
+variables-line : (l : Line) (K : ℕ) (c : Plain) (b : Block) → Says l (plain c) → variables (lines (line c b)) ≤ 32 → K ≤ 32 → Small l K
+variables-line l K (clear i) b s h k =
+    let x : l .index ≡ i = cc in
+    let y : l .source ≡ 0 = cc in
+    record { index = omega arith; source = omega arith; variables = k }
+variables-line l K (increment i) b s h k =
+    let x : l .index ≡ i = cc in
+    let y : l .source ≡ 0 = cc in
+    record { index = omega arith; source = omega arith; variables = k }
+variables-line l K (copy i j) b s h k =
+    let x : l .index ≡ i = cc in
+    let y : l .source ≡ j = cc in
+    record { index = omega arith; source = omega arith; variables = k }
+
+opens-index : (l : Line) (k : Kind) (i : ℕ) → Says l (opens k i) → (l .index ≡ i) × (l .source ≡ 0)
+opens-index l loop i s = (cc, cc)
+opens-index l while i s = (cc, cc)
+
+variables-pair : (l : Line) (K : ℕ) (k : Kind) (i : ℕ) (body b : Block) → Says l (opens k i) → variables (lines (pair k i body b)) ≤ 32 → K ≤ 32
+    → Small l K
+variables-pair l K k i body b s h v =
+    let x : _ = opens-index l k i s in
+    record { index = omega (arith, x .0); source = omega (arith, x .1); variables = v }
+
+module _ (list : List ℕ) (count K d at : ℕ) (s : Site list count K d at) (g : goes-on (block-at list at) ≡ true) where
+  some-lines : (b : Block) → goes-on b ≡ true → 0 < length (lines (first b))
+  some-lines end e = absurd (true≢false (sym e))
+  some-lines (line c b) e = omega arith
+  some-lines (pair k i body b) e = omega arith
+
+  -- There is such a line, of three numbers
+  pub record Here : Type 0 where
+    pub below : at < count
+    pub numbers : 3 * at + 2 < length list
+    pub within : at + length (lines (first (block-at list at))) ≤ count
+    pub passes : 0 < length (lines (first (block-at list at)))
+    pub instructions : length (code K d (first (block-at list at))) ≤ length (code K d (block-at list at))
+    pub symbols : weight (code K d (first (block-at list at))) ≤ weight (code K d (block-at list at))
+
+  pub here : Here
+  here =
+      let b : Block = block-at list at in
+      let f : List Instruction = code K d (first b) in
+      let r : List Instruction = code K d (rest b) in
+      let x : _ = some-lines b g in
+      let low : at < count = omega (arith, lines-first b, bounds list count K d at s .ends) in
+      record {
+        below = low;
+        numbers = omega (arith, numbers-count list count (s .accepts));
+        within = omega (arith, lines-first b, bounds list count K d at s .ends);
+        passes = x;
+        instructions = omega (arith, ap length (code-first K d b), length-append f r);
+        symbols = omega (arith, ap weight (code-first K d b), weight-append f r);
+      }
+
+  pub record PlainHere (l : Line) : Type 0 where
+    pub small : Small l K
+    pub code : code K d (first (block-at list at)) ≡ plain-code K (plain-of l)
+    pub line : length (lines (first (block-at list at))) ≡ 1
+
+  pub plain-at : (l : Line) → l ≡ numbers-at list at → l .kind ≤ 3 → PlainHere l
+  unfolding code
+  plain-at l e h = rw e (go (plain-here list count K d at s g (rw e at h)))
+    where
+      go : Plainly list at → PlainHere (numbers-at list at)
+      go p =
+          let n : Line = numbers-at list at in
+          let b : Bounds list count K d at = bounds list count K d at s in
+          let low : variables (lines (line (p .command) (p .after))) ≤ 32 = rw (p .block) at (b .low) in
+          record {
+            small = variables-line n K (p .command) (p .after) (p .says) low (b .few-variables);
+            code = rw (p .block, plain-says n (p .command) (p .says)) (append-nil (plain-code K (p .command)));
+            line = rw (p .block);
+          }
+
+  -- The code of a pair that line l opens, around that of its body
+  pub record PairHere (l : Line) : Type 0 where
+    pub small : Small l K
+    pub site : Site list count K (deeper (kind-of (l .kind)) d) (at + 1)
+    pub code :
+        let inner = code K (deeper (kind-of (l .kind)) d) (block-at list (at + 1)) in
+        let m = length inner in
+        code K d (first (block-at list at)) ≡ before-body K d (kind-of (l .kind)) (l .index) m ++ (inner ++ (after-body (kind-of (l .kind)) m ∷ []))
+    pub line : length (lines (first (block-at list at))) ≡ length (lines (block-at list (at + 1))) + 2
+
+  pub pair-at : (l : Line) → l ≡ numbers-at list at → 3 < l .kind → PairHere l
+  unfolding code
+  pair-at l e h = rw e (go (pair-here list count K d at s g (rw e at h)))
+    where
+      go : Paired list at → PairHere (numbers-at list at)
+      go p =
+          let n : Line = numbers-at list at in
+          let b : Bounds list count K d at = bounds list count K d at s in
+          let low : variables (lines (pair (p .kind) (p .index) (p .body) (p .after))) ≤ 32 = rw (p .block) at (b .low) in
+          let k : kind-of (n .kind) ≡ p .kind = kind-says n (p .kind) (p .index) (p .says) in
+          let inside : _ = body-site list count K d at s (p .kind) (p .index) (p .body) (p .after) (p .block) in
+          record {
+            small = variables-pair n K (p .kind) (p .index) (p .body) (p .after) (p .says) low (b .few-variables);
+            site = rw k (inside .site);
+            code = rw (p .block, k, inside .block, opens-index n (p .kind) (p .index) (p .says) .0);
+            line = rw (p .block, inside .block) (omega (arith, length-append (lines (p .body)) (closes (p .kind) (p .index) ∷ [])));
+          }

@@ -1,0 +1,104 @@
+-- Where a block stands in an accepted list, what its code counts, and a text written into an output.
+use mathlib.Core.Path.{_≡_}
+use mathlib.Core.Bool.{Bool, true, false}
+use mathlib.Core.List.{List, [], _∷_, _++_}
+use Prim.Native.Nat.{ℕ, _+_, _≤_, _<_}
+use lib.ListN.{length, drop}
+use lib.Seq.{sets}
+use Rattle.theory.specs.Limits
+use Rattle.theory.specs.Basics.{present}
+use Rattle.theory.specs.ProgramText.{Command, variables, listed, Block, end, line, pair, lines, blocks}
+use Rattle.theory.specs.Word.{Instruction, table-of, spell, bytes-of}
+use Rattle.theory.specs.Translation.{before-body, after-body, code}
+use Rattle.theory.specs.TurnedDown.{done, read-list, total}
+use Rattle.theory.proofs.Nesting.{nest}
+use Rattle.translation.specs.Pieces.{kind-of}
+use Rattle.translation.specs.declared.lines.Line.{Line}
+use Rattle.translation.specs.declared.sizes.Extent.{Extent}
+use Rattle.translation.specs.declared.writing.Spot.{Spot}
+
+-- The program of a list, and the block that begins at its line n, from 0
+unfoldable pub program : List ℕ → List Command
+program list = present (listed list)
+
+unfoldable pub block-at : List ℕ → ℕ → Block
+block-at list n = blocks (drop n (program list)) .first
+
+-- Whether a block has a first line or pair; that alone; and what follows it
+abbrev pub goes-on : Block → Bool
+goes-on end = false
+goes-on (line c b) = true
+goes-on (pair k i body b) = true
+
+abbrev pub first : Block → Block
+first end = end
+first (line c b) = line c end
+first (pair k i body b) = pair k i body end
+
+abbrev pub rest : Block → Block
+rest end = end
+rest (line c b) = b
+rest (pair k i body b) = b
+
+-- An accepted list of so many lines
+pub record Accepts (list : List ℕ) (count : ℕ) : Type 0 where
+  pub read : read-list list ≡ done (program list)
+  pub counts : count ≡ length (program list)
+
+-- A block of such a list begins at line `at`, inside d loops, in a program of K variables. After it the list ends or a pair closes
+pub record Site (list : List ℕ) (count K d at : ℕ) : Type 0 where
+  pub accepts : Accepts list count
+  pub names : K ≡ variables (program list)
+  pub within : at ≤ count
+  pub later : List Command
+  pub split : drop at (program list) ≡ lines (block-at list at) ++ later
+  pub stops : blocks later .first ≡ end
+  pub room : d + nest (block-at list at) ≤ Limits.most-open
+
+-- The symbols of some instructions
+abbrev pub weight : List Instruction → ℕ
+weight w = total (table-of w)
+
+-- What some instructions count, up to a line
+pub record Counted (w : List Instruction) (next : ℕ) (e : Extent) : Type 0 where
+  pub instructions : e .instructions ≡ length w
+  pub symbols : e .symbols ≡ weight w
+  pub ended : e .next ≡ next
+
+-- So does the code of a block that begins at line `at`, inside d loops
+abbrev pub Counts : ℕ → ℕ → ℕ → Block → Extent → Type 0
+Counts K d at b e = Counted (code K d b) (at + length (lines b)) e
+
+-- One after the other
+abbrev pub join : Extent → Extent → Extent
+join a b = record { instructions = a .instructions + b .instructions; symbols = a .symbols + b .symbols; next = b .next }
+
+module _ (K d : ℕ) (l : Line) (body : Extent) where
+  -- What stands before and after the body of a pair that a line opens
+  abbrev pub before : List Instruction
+  before = before-body K d (kind-of (l .kind)) (l .index) (body .instructions)
+
+  abbrev pub after : List Instruction
+  after = after-body (kind-of (l .kind)) (body .instructions) ∷ []
+
+  -- The sums do not wrap
+  pub record Roomy : Type 0 where
+    pub instructions : body .instructions ≤ 6144
+    pub symbols : weight before + body .symbols + weight after ≤ 325120
+    pub next : body .next < 512
+
+  -- An extent counts the body with both
+  pub record Around (e : Extent) : Type 0 where
+    pub instructions : e .instructions ≡ length before + body .instructions + length after
+    pub symbols : e .symbols ≡ weight before + body .symbols + weight after
+    pub ended : e .next ≡ body .next + 1
+
+-- A text was written from a place on, and ends before another
+pub record Put (text : List ℕ) (place : ℕ) (before after : List ℕ) (end : ℕ) : Type 0 where
+  pub ended : end ≡ place + length text
+  pub wrote : after ≡ sets before place text
+
+-- Some instructions were written, up to a line
+pub record Wrote (w : List Instruction) (next place : ℕ) (before after : List ℕ) (s : Spot) : Type 0 where
+  pub put : Put (bytes-of (spell w)) place before after (s .place)
+  pub ended : s .next ≡ next
