@@ -308,5 +308,9 @@ fn depth_at(list: &[u8], entries: &[u8], lines: usize, line: usize) -> usize
     }
     let here = line - 1;
     let entry = entries[here] as usize;
-    if list[3 * here] == 5 { entry + 1 } else { entry }
+    if list[3 * here] == 5 {
+        entry + 1
+    } else {
+        entry
+    }
 }
