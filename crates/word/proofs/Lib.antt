@@ -5,3 +5,7 @@ pub mod Judged
 pub mod Fills
 pub mod Counts
 pub mod Spelling
+pub mod Stores
+pub mod Tallies
+pub mod Copies
+pub mod Gathers
