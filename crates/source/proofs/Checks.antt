@@ -6,13 +6,15 @@ use Prim.Native.Nat.{ℕ, zero, suc, pred, _+_, _-_, _*_, _≤_, _<_}
 use native.Mathlib.Decide.{ℕ-discrete}
 use native.Mathlib.Numerals.{add-one}
 use native.Mathlib.Omega.{arith}
-use borrow.Author.Tests.{lt-ltb, le-ltb, le-leb, lt-leb, eqb-true}
+use borrow.Author.Tests.{lt-ltb, le-ltb, le-leb, lt-leb, leb-true, eqb-true}
 use lib.ListN.{length, getD}
 use lib.Dec.{leb, ltb, eqb}
 use Rattle.theory.specs.Basics.{all-below}
 use Rattle.theory.specs.ProgramText.{Command, plain, opens, closes, loop, while, variables}
 use Rattle.theory.specs.Source.{depth}
+use Rattle.theory.specs.Machines.{is-limited}
 use Rattle.theory.specs.TurnedDown.{is-value, is-passes, is-source}
+use Rattle.theory.proofs.Faults.{and-first, and-second}
 use Rattle.source.specs.Answers.{source-state}
 use Rattle.source.specs.declared.State.{State}
 use Rattle.source.specs.Lines.{program, Deep, entry-at, all-values, all-passes}
@@ -137,3 +139,14 @@ module _ (l : List ℕ) (s : State) where
           pub good-values : all-values (s .capacity) (variables p) (s .values) ≡ true
               → all-passes (s .capacity) (depth p (s .line)) (s .passes) ≡ is-source p (source-state s)
           good-values e = (rw e refl) ∙ lists-left
+
+-- What rule 9 says of the line
+pub good-line : (p : List Command) (s : State) → is-source p (source-state s) ≡ true → (0 < s .line) × (s .line ≤ suc (length p))
+unfolding is-source
+good-line p s h =
+    let limits : (is-limited 1024 (s .capacity) && is-limited (suc (length p)) (s .line)) ≡ true = and-first _ _ (and-first _ _ h) in
+    let line : is-limited (suc (length p)) (s .line) ≡ true = and-second (is-limited 1024 (s .capacity)) _ limits in
+    (
+      leb-true 1 (s .line) (and-first (leb 1 (s .line)) _ line),
+      leb-true (s .line) (suc (length p)) (and-second (leb 1 (s .line)) _ line),
+    )

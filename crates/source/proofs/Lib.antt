@@ -7,3 +7,4 @@ pub mod Underway
 pub mod Checks
 pub mod Counts
 pub mod Results
+pub mod Reading
