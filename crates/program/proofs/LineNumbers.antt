@@ -1,7 +1,7 @@
 -- Laws of the numbers of a line: what the reader found at its places, as the definitions' command.
 use mathlib.Core.Path.{_≡_, refl, sym, ap, _∙_}
 use mathlib.Core.Bool.{Bool, true, false, cond, false≢true, true≢false}
-use mathlib.Core.Option.{Option, none, some}
+use mathlib.Core.Option.{Option, none, some, Option·map}
 use mathlib.Core.List.{List, [], _∷_, _++_}
 use Prim.Native.Nat.{ℕ, zero, suc, _+_, _-_, _<_, _≤_}
 use native.Mathlib.Omega.{arith}
@@ -10,13 +10,14 @@ use borrow.Author.Tests.{eq-eqb, ne-eqb}
 use lib.ListN.{length, take, drop, length-append, length-drop, drop-of-length-le}
 use lib.Seq.{take-append-seam, drop-append-seam, take-add, drop-at, length-take-le, drop-drop, drop-cons}
 use Rattle.theory.specs.Text.{Bytes, bytes, Found, after, same, value-after, name, decimal, name-of}
-use Rattle.theory.specs.ProgramText.{around, assigns}
+use Rattle.theory.specs.Basics.{or-else}
+use Rattle.theory.specs.ProgramText.{clear, increment, copy, loop, while, Command, plain, opens, closes, around, assigns, command}
 use Rattle.theory.proofs.Numerals.{decimal-value, name-spelled}
 use Rattle.theory.proofs.Texts.{same-iff}
 use Rattle.program.specs.declared.line.Numbers.{Numbers}
 use Rattle.program.specs.declared.line.Named.{Named}
 use Rattle.program.specs.declared.line.Named.the-variants.{To, No}
-use Rattle.program.specs.Lines.{limited, is-some, found-in, no-numbers, of-kind, numbered, from-name, assignment}
+use Rattle.program.specs.Lines.{limited, is-some, found-in, no-numbers, of-kind, numbered, from-name, clears, increments, copies, assignment}
 
 -- What follows a word
 
@@ -183,3 +184,96 @@ module _ (s : Bytes) where
       pub assignment-from : is-some (after (bytes " <- ") (drop end s)) ≡ true → numbered (from-name (n .value) (drop (end + 4) s)) ≡ numbered (assignment s)
       unfolding assignment around assigns from-name
       assignment-from e = rw (after-nothing s, n .is, c, after-is (bytes " <- ") (drop end s) e .0, drop-drop 4 end s)
+
+-- The spellings, one after the other
+
+one-by-one : (a b c d : Option Command) → or-else a (or-else b (or-else c d)) ≡ or-else (or-else a (or-else b c)) d
+one-by-one none none c d = refl
+one-by-one none (some b) c d = refl
+one-by-one (some a) b c d = refl
+
+numbers-first : (o p : Option Command) {r : Numbers} → r ≡ numbered o → (r .kind ≡ 0 → ⊥) → r ≡ numbered (or-else o p)
+numbers-first none p e n = absurd (n (ap (λ (r : Numbers). r .kind) e))
+numbers-first (some c) p e n = e
+
+numbers-next : (o p : Option Command) {r : Numbers} → r ≡ numbered o → r .kind ≡ 0 → numbered (or-else o p) ≡ numbered p
+numbers-next none p e z = refl
+numbers-next (some c) p e z = absurd (go c (sym (ap (λ (r : Numbers). r .kind) e) ∙ z))
+  where
+    go : (c : Command) → numbered (some c) .kind ≡ 0 → ⊥
+    go (plain (clear i)) f = omega arith
+    go (plain (increment i)) f = omega arith
+    go (plain (copy i j)) f = omega arith
+    go (opens loop i) f = omega arith
+    go (closes loop i) f = omega arith
+    go (opens while i) f = omega arith
+    go (closes while i) f = omega arith
+
+mapped-4 : (o : Option ℕ) → of-kind 4 o ≡ numbered (Option·map (opens loop) o)
+mapped-4 none = refl
+mapped-4 (some i) = refl
+
+mapped-5 : (o : Option ℕ) → of-kind 5 o ≡ numbered (Option·map (closes loop) o)
+mapped-5 none = refl
+mapped-5 (some i) = refl
+
+mapped-6 : (o : Option ℕ) → of-kind 6 o ≡ numbered (Option·map (opens while) o)
+mapped-6 none = refl
+mapped-6 (some i) = refl
+
+mapped-7 : (o : Option ℕ) → of-kind 7 o ≡ numbered (Option·map (closes while) o)
+mapped-7 none = refl
+mapped-7 (some i) = refl
+
+abbrev loops : Bytes → Option Command
+loops s = Option·map (opens loop) (around (bytes "loop ") (bytes "") s)
+
+abbrev endloops : Bytes → Option Command
+endloops s = Option·map (closes loop) (around (bytes "endloop ") (bytes "") s)
+
+abbrev whiles : Bytes → Option Command
+whiles s = Option·map (opens while) (around (bytes "while ") (bytes " != 0") s)
+
+abbrev endwhiles : Bytes → Option Command
+endwhiles s = Option·map (closes while) (around (bytes "endwhile ") (bytes " != 0") s)
+
+spellings : (s : Bytes) → command s ≡ or-else (assignment s) (or-else (loops s) (or-else (endloops s) (or-else (whiles s) (endwhiles s))))
+unfolding command assignment
+spellings s = one-by-one (clears s) (increments s) (copies s) (or-else (loops s) (or-else (endloops s) (or-else (whiles s) (endwhiles s))))
+
+module _ (s : Bytes) {a : Numbers} (ea : a ≡ numbered (assignment s)) where
+  pub numbers-a : (a .kind ≡ 0 → ⊥) → a ≡ numbered (command s)
+  numbers-a n = rw (spellings s) (numbers-first (assignment s) _ ea n)
+
+  module _ (za : a .kind ≡ 0) {b : Numbers} (eb : b ≡ of-kind 4 (around (bytes "loop ") (bytes "") s)) where
+    past-a : numbered (command s) ≡ numbered (or-else (loops s) (or-else (endloops s) (or-else (whiles s) (endwhiles s))))
+    past-a = rw (spellings s) (numbers-next (assignment s) _ ea za)
+
+    is-b : b ≡ numbered (loops s)
+    is-b = eb ∙ mapped-4 (around (bytes "loop ") (bytes "") s)
+
+    pub numbers-b : (b .kind ≡ 0 → ⊥) → b ≡ numbered (command s)
+    numbers-b n = numbers-first (loops s) _ is-b n ∙ sym past-a
+
+    module _ (zb : b .kind ≡ 0) {c : Numbers} (ec : c ≡ of-kind 5 (around (bytes "endloop ") (bytes "") s)) where
+      past-b : numbered (command s) ≡ numbered (or-else (endloops s) (or-else (whiles s) (endwhiles s)))
+      past-b = past-a ∙ numbers-next (loops s) _ is-b zb
+
+      is-c : c ≡ numbered (endloops s)
+      is-c = ec ∙ mapped-5 (around (bytes "endloop ") (bytes "") s)
+
+      pub numbers-c : (c .kind ≡ 0 → ⊥) → c ≡ numbered (command s)
+      numbers-c n = numbers-first (endloops s) _ is-c n ∙ sym past-b
+
+      module _ (zc : c .kind ≡ 0) {d : Numbers} (ed : d ≡ of-kind 6 (around (bytes "while ") (bytes " != 0") s)) where
+        past-c : numbered (command s) ≡ numbered (or-else (whiles s) (endwhiles s))
+        past-c = past-b ∙ numbers-next (endloops s) _ is-c zc
+
+        is-d : d ≡ numbered (whiles s)
+        is-d = ed ∙ mapped-6 (around (bytes "while ") (bytes " != 0") s)
+
+        pub numbers-d : (d .kind ≡ 0 → ⊥) → d ≡ numbered (command s)
+        numbers-d n = numbers-first (whiles s) _ is-d n ∙ sym past-c
+
+        pub numbers-e : d .kind ≡ 0 → {e : Numbers} → e ≡ of-kind 7 (around (bytes "endwhile ") (bytes " != 0") s) → e ≡ numbered (command s)
+        numbers-e zd ee = ee ∙ mapped-7 (around (bytes "endwhile ") (bytes " != 0") s) ∙ sym (past-c ∙ numbers-next (whiles s) _ is-d zd)

@@ -2,11 +2,12 @@
 use mathlib.Core.Bool.{Bool, true, false, cond}
 use mathlib.Core.Option.{Option, none, some, Option·map}
 use mathlib.Core.List.{List, [], _∷_}
-use Prim.Native.Nat.{ℕ, zero, suc, _-_, min}
+use mathlib.Core.Path.{_≡_}
+use Prim.Native.Nat.{ℕ, suc, _-_, _*_, _≤_, min}
 use lib.Dec.{eqb}
-use lib.ListN.{length}
+use lib.ListN.{length, take}
 use Rattle.theory.specs.Basics.{given, or-else, and-then}
-use Rattle.theory.specs.Text.{Bytes, bytes, LF, Found, same, name}
+use Rattle.theory.specs.Text.{Bytes, bytes, LF, Found, same, name, split-lines}
 use Rattle.theory.specs.ProgramText.{clear, increment, copy, loop, while, Command, plain, opens, closes, around, assigns, command}
 use Rattle.program.specs.declared.line.Numbers.{Numbers}
 use Rattle.program.specs.declared.line.Named.{Named}
@@ -50,11 +51,17 @@ from-name i u =
     (Option·map (λ ij. plain (copy (ij .0) (ij .1))) (pair (bytes "")))
 
 -- The first three spellings
+abbrev pub clears : Bytes → Option Command
+clears t = Option·map (λ i. plain (clear i)) (around (bytes "") (bytes " <- 0") t)
+
+abbrev pub increments : Bytes → Option Command
+increments t = and-then (assigns (bytes " + 1") t) λ ij. given (eqb (ij .0) (ij .1)) (plain (increment (ij .0)))
+
+abbrev pub copies : Bytes → Option Command
+copies t = Option·map (λ ij. plain (copy (ij .0) (ij .1))) (assigns (bytes "") t)
+
 unfoldable pub assignment : Bytes → Option Command
-assignment t =
-    or-else (Option·map (λ i. plain (clear i)) (around (bytes "") (bytes " <- 0") t))
-    (or-else (and-then (assigns (bytes " + 1") t) λ ij. given (eqb (ij .0) (ij .1)) (plain (increment (ij .0))))
-    (Option·map (λ ij. plain (copy (ij .0) (ij .1))) (assigns (bytes "") t)))
+assignment t = or-else (clears t) (or-else (increments t) (copies t))
 
 -- The bytes before the first LF
 unfoldable pub line-length : Bytes → ℕ
@@ -65,3 +72,9 @@ line-length (b ∷ t) = cond (eqb b LF) 0 (suc (line-length t))
 unfoldable pub all-numbers : List Bytes → List ℕ
 all-numbers [] = []
 all-numbers (l ∷ ls) = let n = numbered (command l) in n .kind ∷ n .index ∷ n .source ∷ all-numbers ls
+
+-- A text has r lines, and the numbers of all stand at the front of a list, where they are few enough for it
+pub record Lined (t l : List ℕ) (r : ℕ) : Type 0 where
+  pub count : r ≡ length (split-lines t)
+  pub size : length l ≡ 1536
+  pub numbers : r ≤ 512 → take (3 * r) l ≡ all-numbers (split-lines t)

@@ -1,14 +1,20 @@
 // Programs as text and as a list of three numbers a command (document 01, "The program text"): checked by rules 1 to 8, read and written.
 mod line; // line.rt: the three numbers of a line
 mod nest; // nest.rt: rules 4 to 7, for one command under the pairs that are open
+mod spell; // spell.rt: the bytes of a command
 
 use nest::Judged;
 use nest::Nest;
 use theory::Refusal;
 ghost use mathlib.Core.Path.{_≡_};
 ghost use Prim.Native.Nat.{suc, max, _<_};
-ghost use Rattle.theory.specs.TurnedDown.{read-list};
-ghost use Rattle.program.specs.Answers.{checked};
+ghost use mathlib.Core.Bool.{_||_};
+ghost use lib.Dec.{eqb};
+ghost use lib.ListN.{length};
+ghost use Rattle.theory.specs.Text.{ends-in-LF};
+ghost use Rattle.theory.specs.ProgramText.{list-of};
+ghost use Rattle.theory.specs.TurnedDown.{mapped, read-list, lent-after};
+ghost use Rattle.program.specs.Answers.{checked, read-into};
 
 // What is known of an accepted program: its number of commands, and K, the highest index named plus 1.
 pub struct Program {
@@ -82,4 +88,55 @@ pub fn check_list(list: &[u8]) -> Checked
         });
     }
     nest.ended(Program { lines, variables })
+}
+
+// Whether a text is empty or ends in LF, which rule 2 asks.
+fn is_ended(text: &[u8]) -> bool
+    ensures { λ r. ⌜ r ≡ (eqb (length (now (text .entry))) 0 || ends-in-LF (now (text .entry))) ⌝ }
+{
+    if text.len() == 0 {
+        return true;
+    }
+    text[text.len() - 1] == 10
+}
+
+// A text read into a lent list of three numbers a command: rules 1 to 8, then 19.
+pub fn read(text: &[u8], list: &mut [u8]) -> Checked
+    ensures { λ r. ⌜ r ≡ checked (read-into (now (list .entry)) (now (text .entry))) ⌝ }
+    ensures { λ _. ⌜ now (list .exit) ≡ lent-after (now (list .entry)) (mapped list-of (read-into (now (list .entry)) (now (text .entry)))) ⌝ }
+{
+    if Program::BYTES < text.len() {
+        return Checked::Refused(Refusal {
+            number: 1,
+            place: 0,
+        });
+    }
+    let mut numbers = [0u8; Program::NUMBERS];
+    let lines = line::read_lines(text, &mut numbers);
+    if !is_ended(text) {
+        return Checked::Refused(Refusal {
+            number: 2,
+            place: lines,
+        });
+    }
+    if Program::LINES < lines {
+        return Checked::Refused(Refusal {
+            number: 3,
+            place: Program::LINES + 1,
+        });
+    }
+    let count = 3 * lines;
+    match check_list(&numbers[..count]) {
+        Checked::Refused(r) => Checked::Refused(r),
+        Checked::Accepted(program) => {
+            if list.len() < count {
+                return Checked::Refused(Refusal {
+                    number: 19,
+                    place: 0,
+                });
+            }
+            spell::put_bytes(list, 0, &numbers[..count]);
+            Checked::Accepted(program)
+        }
+    }
 }

@@ -5,9 +5,11 @@ ghost use mathlib.Core.List.{_∷_, []};
 ghost use Prim.Native.Nat.{ℕ, _+_, _-_, _*_, _≤_, _<_};
 ghost use lib.ListN.{length, drop, take};
 ghost use lib.Seq.{sets};
+ghost use Rattle.theory.specs.Limits.{most-bytes};
 ghost use Rattle.theory.specs.Text.{after, same, digits, value-after, name, name-of};
 ghost use Rattle.theory.specs.ProgramText.{around, command};
-ghost use Rattle.program.specs.Lines.{limited, is-some, found-in, of-kind, numbered, from-name, assignment as assignment-of, line-length, all-numbers};
+ghost use Rattle.program.specs.Lines.{limited, is-some, found-in, of-kind, numbered, from-name, assignment as assignment-of};
+ghost use Rattle.program.specs.Lines.{line-length, Lined};
 
 // Kind (0 where a line is none of the spellings), index, and a copy's source index. An index above 31 is 32.
 pub struct Numbers {
@@ -194,4 +196,70 @@ fn assignment(s: &[u8]) -> Numbers
         Named::No => {}
     }
     NO_COMMAND
+}
+
+// The numbers of a line, by the first of the spellings that it has.
+pub fn numbers_of(s: &[u8]) -> Numbers
+    ensures { λ r. ⌜ r ≡ numbered (command (now (s .entry))) ⌝ }
+{
+    let a = assignment(s);
+    if a.kind != 0 {
+        return a;
+    }
+    let b = pair_line(s, 4, b"loop ", b"");
+    if b.kind != 0 {
+        return b;
+    }
+    let c = pair_line(s, 5, b"endloop ", b"");
+    if c.kind != 0 {
+        return c;
+    }
+    let d = pair_line(s, 6, b"while ", b" != 0");
+    if d.kind != 0 {
+        return d;
+    }
+    pair_line(s, 7, b"endwhile ", b" != 0")
+}
+
+// Where the line ends that begins at a place: at its LF, or at the text's end.
+fn line_end(text: &[u8], at: usize) -> usize
+    requires { ⌜ at ≤ length (now text) ⌝ }
+    ensures { λ r. ⌜ (r ≡ at + line-length (drop at (now (text .entry)))) × (r ≤ length (now (text .entry))) ⌝ }
+{
+    let mut end = at;
+    while end < text.len() {
+        if text[end] == 10 {
+            return end;
+        }
+        end += 1;
+    }
+    end
+}
+
+// Three numbers at a place of a list, where it has room.
+fn store(n: Numbers, list: &mut [u8], at: usize)
+    requires { ⌜ at < 65536 ⌝ }
+    ensures { λ _. ⌜ (at + 3 ≤ length (now (list .entry)) → now (list .exit) ≡ sets (now (list .entry)) at (n .kind ∷ (n .index ∷ (n .source ∷ [])))) ⌝ }
+{
+    if at + 2 < list.len() {
+        list[at] = n.kind;
+        list[at + 1] = n.index;
+        list[at + 2] = n.source;
+    }
+}
+
+// The number of lines, with the numbers of the first 512 in the list.
+pub fn read_lines(text: &[u8], list: &mut [u8]) -> usize
+    requires { ⌜ (length (now text) ≤ most-bytes) × (length (now list) ≡ 1536) ⌝ }
+    ensures { λ r. ⌜ Lined (now (text .entry)) (now (list .exit)) r ⌝ }
+{
+    let mut at = 0;
+    let mut lines = 0;
+    while at < text.len() {
+        let end = line_end(text, at);
+        store(numbers_of(&text[at..end]), list, 3 * lines);
+        lines += 1;
+        at = end + 1;
+    }
+    lines
 }

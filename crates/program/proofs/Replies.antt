@@ -1,0 +1,95 @@
+-- What the entries hand back, from what was read: the answer, and what then stands in the lent memory.
+use mathlib.Core.Path.{_≡_, refl, sym, ap, _∙_}
+use mathlib.Core.Bool.{true, false, _||_}
+use mathlib.Core.List.{List, _++_}
+use Prim.Native.Nat.{ℕ, _*_, _≤_, _<_}
+use native.Mathlib.Omega.{arith}
+use borrow.Author.Tests.{lt-leb, le-leb}
+use lib.Dec.{eqb}
+use lib.ListN.{length, take, drop}
+use lib.Seq.{length-take-le}
+use Rattle.theory.specs.Text.{Bytes, ends-in-LF}
+use Rattle.theory.specs.ProgramText.{Command, list-of, text-of}
+use Rattle.theory.specs.TurnedDown.{Answer, done, refused, mapped, rule-19, read-text, read-list, lent-after}
+use Rattle.theory.specs.declared.Refusal.{Refusal}
+use Rattle.theory.proofs.Lists.{lists-round-trip}
+use Rattle.program.specs.declared.Program.{Program}
+use Rattle.program.specs.declared.Checked.{Checked}
+use Rattle.program.specs.declared.Checked.the-variants as C
+use Rattle.program.specs.Answers.{program-of, checked, read-into}
+use Rattle.program.specs.Lines.{Lined}
+use Rattle.program.specs.Puts.{Put}
+use Rattle.program.proofs.Puts.{sets-front}
+use Rattle.program.proofs.TextCheck.{refused-2, past-2, refused-3}
+
+-- A check read back
+pub checked-refused : (a : Answer (List Command)) {c : Checked} {r : Refusal} → c ≡ checked a → c ≡ C.Refused r → a ≡ refused r
+checked-refused (done p) e f = cc
+checked-refused (refused q) e f = cc
+
+pub checked-accepted : (a : Answer (List Command)) {c : Checked} {q : Program} → c ≡ checked a → c ≡ C.Accepted q
+    → (p : List Command) × (a ≡ done p) × (q ≡ program-of p)
+checked-accepted (done p) e f = (p, refl, cc)
+checked-accepted (refused r) e f = let z : _≡_ {A = ℕ} 0 1 = cc in absurd (omega arith)
+
+-- What `read` promises
+abbrev pub Reads : Bytes → List ℕ → Checked → List ℕ → Type 0
+Reads t lent c out = (c ≡ checked (read-into lent t)) × (out ≡ lent-after lent (mapped list-of (read-into lent t)))
+
+module _ (t : Bytes) (lent : List ℕ) where
+  unread : (r : Refusal) → read-into lent t ≡ refused r → Reads t lent (C.Refused r) lent
+  unfolding lent-after
+  unread r e = (rw e, rw e)
+
+  pub reads-refused : (r : Refusal) → read-text t ≡ refused r → Reads t lent (C.Refused r) lent
+  unfolding read-into
+  reads-refused r e = unread r (rw e)
+
+  module _ (l : List ℕ) (p : List Command) (e : read-text t ≡ done p) (f : list-of p ≡ l) where
+    pub reads-no-room : length lent < length l → Reads t lent (C.Refused (record { number = 19; place = 0 })) lent
+    unfolding read-into rule-19
+    reads-no-room h = unread _ (rw (e, f, lt-leb (length l) (length lent) h))
+
+    pub reads-done : length l ≤ length lent → (q : Program) (out : List ℕ) → q ≡ program-of p → out ≡ l ++ drop (length l) lent
+        → Reads t lent (C.Accepted q) out
+    unfolding read-into rule-19 lent-after
+    reads-done h q out g k =
+        let d : read-into lent t ≡ done p = rw (e, f, le-leb (length l) (length lent) h) in
+        (rw (d, g), rw (d, k, f))
+
+-- A text of at most 16,384 bytes whose lines were read into numbers
+module _ (t : Bytes) (lent numbers : List ℕ) (lines : ℕ) (d : Lined t numbers lines) (h : length t ≤ 16384) where
+  pub read-unended : (eqb (length t) 0 || ends-in-LF t) ≡ false → Reads t lent (C.Refused (record { number = 2; place = lines })) lent
+  read-unended e = rw (d .count) (reads-refused t lent _ (refused-2 t h e))
+
+  module _ (e : (eqb (length t) 0 || ends-in-LF t) ≡ true) where
+    pub read-long : 512 < lines → Reads t lent (C.Refused (record { number = 3; place = 513 })) lent
+    read-long l = reads-refused t lent _ (past-2 t h e ∙ refused-3 t (rw (d .count) at l))
+
+    module _ (few : lines ≤ 512) where
+      abbrev part : List ℕ
+      part = take (3 * lines) numbers
+
+      same-read : read-text t ≡ read-list part
+      same-read = past-2 t h e ∙ ap read-list (sym (d .numbers few))
+
+      pub part-length : length part ≡ 3 * lines
+      part-length = length-take-le (3 * lines) numbers (omega (arith, d .size))
+
+      module _ {c : Checked} (k : c ≡ checked (read-list part)) where
+        pub read-fault : {r : Refusal} → c ≡ C.Refused r → Reads t lent (C.Refused r) lent
+        read-fault f = reads-refused t lent _ (same-read ∙ checked-refused (read-list part) k f)
+
+        module _ {q : Program} (f : c ≡ C.Accepted q) where
+          abbrev read : (p : List Command) × (read-list part ≡ done p) × (q ≡ program-of p)
+          read = checked-accepted (read-list part) k f
+
+          pub read-no-room : length lent < 3 * lines → Reads t lent (C.Refused (record { number = 19; place = 0 })) lent
+          read-no-room l =
+              reads-no-room t lent part (read .0) (same-read ∙ read .1) (lists-round-trip .1 part (read .0) (read .1)) (omega (arith, part-length))
+
+          pub read-all : {out : List ℕ} {j : ℕ} → 3 * lines ≤ length lent → Put part 0 lent out j → Reads t lent (C.Accepted q) out
+          read-all l w =
+              let room : length part ≤ length lent = omega (arith, part-length) in
+              reads-done t lent part (read .0) (same-read ∙ read .1) (lists-round-trip .1 part (read .0) (read .1)) room q _ (read .2)
+              (w .wrote ∙ sets-front lent part room)

@@ -1,0 +1,112 @@
+-- Laws of the lines of a text: where each ends, and their numbers in the list as they are read.
+use mathlib.Core.Path.{_≡_, refl, sym, ap, ap₂, _∙_}
+use mathlib.Core.Bool.{Bool, true, false, cond}
+use mathlib.Core.List.{List, [], _∷_, _++_, append-assoc, append-nil}
+use Prim.Native.Nat.{ℕ, zero, suc, _+_, _-_, _*_, _<_, _≤_}
+use native.Mathlib.Nat.{add-suc}
+use native.Mathlib.Numerals.{add-one}
+use native.Mathlib.Omega.{arith}
+use borrow.Author.Tests.{eq-eqb, ne-eqb}
+use lib.Dec.{eqb}
+use lib.ListN.{length, getD, take, drop, length-append, length-drop, drop-of-length-le}
+use lib.Seq.{sets, sets-eq, drop-cons, drop-drop, take-at, length-take-le}
+use Rattle.theory.specs.Text.{Bytes, LF, onto-first, split-lines}
+use Rattle.theory.specs.ProgramText.{command}
+use Rattle.program.specs.declared.line.Numbers.{Numbers}
+use Rattle.program.specs.Lines.{numbered, line-length, all-numbers, Lined}
+
+-- Where a line ends
+
+abbrev pub EndsFrom : Bytes → ℕ → ℕ → Type 0
+EndsFrom t at end = (end ≤ length t) × (end + line-length (drop end t) ≡ at + line-length (drop at t))
+
+module _ (t : Bytes) (at end : ℕ) (h : EndsFrom t at end) where
+  pub line-more : end < length t → (getD t end 0 ≡ 10 → ⊥) → EndsFrom t at (end + 1)
+  unfolding line-length
+  line-more l n =
+      let here : line-length (drop end t) ≡ suc (line-length (drop (end + 1) t)) = rw (drop-cons t end 0 l, ne-eqb (getD t end 0) 10 n, add-one end) in
+      (omega arith, omega (arith, h .1, here))
+
+  pub line-LF : end < length t → getD t end 0 ≡ 10 → (end ≡ at + line-length (drop at t)) × (end ≤ length t)
+  unfolding line-length
+  line-LF l e =
+      let here : line-length (drop end t) ≡ 0 = rw (drop-cons t end 0 l, e) in
+      (omega (arith, h .1, here), h .0)
+
+  pub line-last : length t ≤ end → (end ≡ at + line-length (drop at t)) × (end ≤ length t)
+  unfolding line-length
+  line-last l =
+      let here : line-length (drop end t) ≡ 0 = rw (drop-of-length-le t l) in
+      (omega (arith, h .1, here), h .0)
+
+-- A text that is not empty has a first line, and those after its LF
+first-line : (t : Bytes) → 0 < length t → split-lines t ≡ take (line-length t) t ∷ split-lines (drop (suc (line-length t)) t)
+unfolding split-lines line-length
+first-line [] h = absurd (omega arith)
+first-line (b ∷ t) h = go (eqb b LF) t (first-line t)
+  where
+    go : (x : Bool) (t : Bytes) → (0 < length t → split-lines t ≡ take (line-length t) t ∷ split-lines (drop (suc (line-length t)) t))
+        → cond x ([] ∷ split-lines t) (onto-first b (split-lines t))
+        ≡ take (cond x 0 (suc (line-length t))) (b ∷ t) ∷ split-lines (drop (suc (cond x 0 (suc (line-length t)))) (b ∷ t))
+    go true t r = refl
+    go false [] r = refl
+    go false (c ∷ t) r = rw (r (omega arith))
+
+-- The numbers of lines, as they are stored
+
+numbers-stored : (l : List ℕ) (m a b c : ℕ) → m + 3 ≤ length l → take (m + 3) (sets l m (a ∷ b ∷ c ∷ [])) ≡ take m l ++ (a ∷ b ∷ c ∷ [])
+numbers-stored l m a b c h =
+    let front : List ℕ = take m l ++ (a ∷ b ∷ c ∷ []) in
+    let long : length front ≡ m + 3 = omega (arith, length-append (take m l) (a ∷ b ∷ c ∷ []), length-take-le m l (omega arith)) in
+    rw (sets-eq (a ∷ b ∷ c ∷ []) l m h) (take-at front (drop (m + 3) l) (m + 3) long)
+
+-- Before the line at `at`: the numbers of the lines before it, and of those that are left, are those of the whole text
+pub record LinesFrom (t l : List ℕ) (at lines : ℕ) : Type 0 where
+  pub within : at ≤ length t + 1
+  pub few : lines ≤ at
+  pub size : length l ≡ 1536
+  pub count : lines + length (split-lines (drop at t)) ≡ length (split-lines t)
+  pub numbers : lines ≤ 512 → take (3 * lines) l ++ all-numbers (split-lines (drop at t)) ≡ all-numbers (split-lines t)
+
+pub lines-start : (t l : List ℕ) → length l ≡ 1536 → LinesFrom t l 0 0
+lines-start t l h = record { within = omega arith; few = omega arith; size = h; count = omega arith; numbers = λ k. refl }
+
+module _ (t l : List ℕ) (at lines : ℕ) (h : LinesFrom t l at lines) where
+  pub lines-read : length t ≤ at → Lined t l lines
+  unfolding split-lines all-numbers
+  lines-read k =
+      let none-left : drop at t ≡ [] = drop-of-length-le t k in
+      record {
+        count = omega (arith, h .count, ap (λ u. length (split-lines u)) none-left);
+        size = h .size;
+        numbers = λ f. sym (append-nil (take (3 * lines) l)) ∙ (rw none-left at (h .numbers f));
+      }
+
+  module _ (more : at < length t) (end : ℕ) (e : end ≡ at + line-length (drop at t)) (k : end ≤ length t) where
+    abbrev line : Bytes
+    line = take (end - at) (drop at t)
+
+    split : split-lines (drop at t) ≡ line ∷ split-lines (drop (end + 1) t)
+    split =
+        let a : line-length (drop at t) ≡ end - at = omega (arith, e) in
+        let b : at + suc (end - at) ≡ end + 1 = omega (arith, e) in
+        first-line (drop at t) (omega (arith, length-drop at t)) ∙ rw (a, drop-drop (suc (end - at)) at t, b)
+
+    pub lines-next : (n : Numbers) (l′ : List ℕ) → n ≡ numbered (command line) → length l′ ≡ length l
+        → (3 * lines + 3 ≤ length l → l′ ≡ sets l (3 * lines) (n .kind ∷ (n .index ∷ (n .source ∷ []))))
+        → LinesFrom t l′ (end + 1) (lines + 1)
+    unfolding all-numbers
+    lines-next n l′ f g s =
+        let three : List ℕ = n .kind ∷ n .index ∷ n .source ∷ [] in
+        let rest : List ℕ = all-numbers (split-lines (drop (end + 1) t)) in
+        let m : 3 * (lines + 1) ≡ 3 * lines + 3 = omega arith in
+        let front : lines + 1 ≤ 512 → take (3 * (lines + 1)) l′ ≡ take (3 * lines) l ++ three =
+        λ r. rw (m, s (omega (arith, h .size))) (numbers-stored l (3 * lines) (n .kind) (n .index) (n .source) (omega (arith, h .size))) in
+        let left : all-numbers (split-lines (drop at t)) ≡ three ++ rest = rw (split, f) in
+        record {
+          within = omega arith;
+          few = omega (arith, h .few, e);
+          size = omega (arith, g, h .size);
+          count = omega (arith, h .count, ap length split);
+          numbers = λ r. ap (λ u. u ++ rest) (front r) ∙ append-assoc (take (3 * lines) l) three rest ∙ rw (← left) (h .numbers (omega arith));
+        }

@@ -1,0 +1,106 @@
+-- `program::read` meets its contract: rule by rule, and the check of the numbers is that of the text.
+use mathlib.Core.Path.{_∙_, sym}
+use native.Mathlib.Omega.{arith}
+use borrow.Author.Tests.{not-true, not-false}
+use Rattle.program.proofs.TextCheck.{refused-1}
+use Rattle.program.proofs.Replies.{reads-refused, read-unended, read-long, part-length, read-fault, read-no-room, read-all}
+use borrow.Author.Needs.{needs}
+use Rattle.program.proofs.read.Statement.{statement}
+use Rattle.program.proofs.read.Tie as tie
+
+returns : tie.Need-returns
+returns c = let a = c .before .before .before .args in
+    reads-refused (a .text .now) (a .list .now) _ (refused-1 (a .text .now) (omega arith))
+
+slice-aggregate-read-lines : tie.Need-slice-aggregate-read-lines
+slice-aggregate-read-lines c = search needs
+
+read-lines-requires : tie.Need-read-lines-requires
+read-lines-requires c κs = search needs
+
+is-ended-requires : tie.Need-is-ended-requires
+is-ended-requires c κs = search needs
+
+returns-2 : tie.Need-returns-2
+returns-2 c = let a = c .before .before .before .before .before .before .before .before .args in
+    read-unended (a .text .now) (a .list .now) (c .before .before .before .read-lines .last .1 .0) (c .before .before .before .read-lines .result) (c .before .before .before .read-lines .ensures) (omega arith) (sym (c .before .is-ended .ensures) ∙ not-true _ (c .if2 .taken))
+
+add-t15 : tie.Need-add-t15
+add-t15 c = search needs
+
+returns-3 : tie.Need-returns-3
+returns-3 c = let a = c .before .before .before .before .before .before .before .before .before .args in
+    read-long (a .text .now) (a .list .now) (c .before .before .before .before .read-lines .last .1 .0) (c .before .before .before .before .read-lines .result) (c .before .before .before .before .read-lines .ensures) (omega arith) (sym (c .before .before .is-ended .ensures) ∙ not-false _ (c .before .if2 .left)) (c .if3 .taken)
+
+mul-count : tie.Need-mul-count
+mul-count c = search needs
+
+array-share-prefix-numbers : tie.Need-array-share-prefix-numbers
+array-share-prefix-numbers c = search needs
+
+slice-aggregate-check-list : tie.Need-slice-aggregate-check-list
+slice-aggregate-check-list c = let a = c .before .before .before .before .before .before .before .before .before .before .args in
+    sym (part-length (a .text .now) (a .list .now) (c .before .before .before .before .before .read-lines .last .1 .0) (c .before .before .before .before .before .read-lines .result) (c .before .before .before .before .before .read-lines .ensures) (omega arith) (sym (c .before .before .before .is-ended .ensures) ∙ not-false _ (c .before .before .if2 .left)) (c .before .if3 .left))
+
+check-list-requires : tie.Need-check-list-requires
+check-list-requires c κs = search needs
+
+enum-known-r : tie.Need-enum-known-r
+enum-known-r c = search needs
+
+enum-known-program : tie.Need-enum-known-program
+enum-known-program c = search needs
+
+returns-4 : tie.Need-returns-4
+returns-4 c = let a = c .before .before .before .before .before .before .before .before .before .before .before .before .before .before .before .args in
+    read-no-room (a .text .now) (a .list .now) (c .before .before .before .before .before .before .before .before .before .before .read-lines .last .1 .0) (c .before .before .before .before .before .before .before .before .before .before .read-lines .result) (c .before .before .before .before .before .before .before .before .before .before .read-lines .ensures) (omega arith) (sym (c .before .before .before .before .before .before .before .before .is-ended .ensures) ∙ not-false _ (c .before .before .before .before .before .before .before .if2 .left)) (c .before .before .before .before .before .before .if3 .left)
+    (c .before .before .before .before .check-list .ensures) (c .before .before .program .given .1) (c .if4 .taken)
+
+array-share-prefix-numbers-2 : tie.Need-array-share-prefix-numbers-2
+array-share-prefix-numbers-2 c = search needs
+
+slice-aggregate-put-bytes : tie.Need-slice-aggregate-put-bytes
+slice-aggregate-put-bytes c = let a = c .before .before .before .before .before .before .before .before .before .before .before .before .before .before .before .before .before .args in
+    sym (part-length (a .text .now) (a .list .now) (c .before .before .before .before .before .before .before .before .before .before .before .before .read-lines .last .1 .0) (c .before .before .before .before .before .before .before .before .before .before .before .before .read-lines .result) (c .before .before .before .before .before .before .before .before .before .before .before .before .read-lines .ensures) (omega arith) (sym (c .before .before .before .before .before .before .before .before .before .before .is-ended .ensures) ∙ not-false _ (c .before .before .before .before .before .before .before .before .before .if2 .left)) (c .before .before .before .before .before .before .before .before .if3 .left))
+
+put-bytes-requires : tie.Need-put-bytes-requires
+put-bytes-requires c κs = let a = c .before .before .before .before .before .before .before .before .before .before .before .before .before .before .before .before .before .args in
+    omega (arith, part-length (a .text .now) (a .list .now) (c .before .before .before .before .before .before .before .before .before .before .before .before .read-lines .last .1 .0) (c .before .before .before .before .before .before .before .before .before .before .before .before .read-lines .result) (c .before .before .before .before .before .before .before .before .before .before .before .before .read-lines .ensures) (omega arith) (sym (c .before .before .before .before .before .before .before .before .before .before .is-ended .ensures) ∙ not-false _ (c .before .before .before .before .before .before .before .before .before .if2 .left)) (c .before .before .before .before .before .before .before .before .if3 .left), c .before .before .if4 .left)
+
+returns-5 : tie.Need-returns-5
+returns-5 c = let a = c .before .before .before .before .before .before .before .before .before .before .before .before .before .before .args in
+    read-fault (a .text .now) (a .list .now) (c .before .before .before .before .before .before .before .before .before .read-lines .last .1 .0) (c .before .before .before .before .before .before .before .before .before .read-lines .result) (c .before .before .before .before .before .before .before .before .before .read-lines .ensures) (omega arith) (sym (c .before .before .before .before .before .before .before .is-ended .ensures) ∙ not-false _ (c .before .before .before .before .before .before .if2 .left)) (c .before .before .before .before .before .if3 .left)
+    (c .before .before .before .check-list .ensures) (c .before .r .given .1)
+
+same-length : tie.Need-same-length
+same-length c = search needs
+
+returns-6 : tie.Need-returns-6
+returns-6 c = let a = c .before .before .before .before .before .before .before .before .before .before .before .before .before .before .before .before .before .before .before .before .args in
+    read-all (a .text .now) (a .list .now) (c .before .before .before .before .before .before .before .before .before .before .before .before .before .before .before .read-lines .last .1 .0) (c .before .before .before .before .before .before .before .before .before .before .before .before .before .before .before .read-lines .result) (c .before .before .before .before .before .before .before .before .before .before .before .before .before .before .before .read-lines .ensures) (omega arith) (sym (c .before .before .before .before .before .before .before .before .before .before .before .before .before .is-ended .ensures) ∙ not-false _ (c .before .before .before .before .before .before .before .before .before .before .before .before .if2 .left)) (c .before .before .before .before .before .before .before .before .before .before .before .if3 .left)
+    (c .before .before .before .before .before .before .before .before .before .check-list .ensures) (c .before .before .before .before .before .before .before .program .given .1) (c .before .before .before .before .before .if4 .left) (c .before .before .put-bytes .ensures)
+
+pub read-spec : {M : Type 1} → statement M
+read-spec =
+    tie.close
+    (tie.spec
+    returns
+    slice-aggregate-read-lines
+    read-lines-requires
+    is-ended-requires
+    returns-2
+    add-t15
+    returns-3
+    mul-count
+    array-share-prefix-numbers
+    slice-aggregate-check-list
+    check-list-requires
+    enum-known-r
+    enum-known-program
+    returns-4
+    array-share-prefix-numbers-2
+    slice-aggregate-put-bytes
+    put-bytes-requires
+    returns-5
+    same-length
+    returns-6)
