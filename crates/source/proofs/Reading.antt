@@ -1,18 +1,23 @@
 -- What the crate `program` answers, and the program that a list holds then.
 use mathlib.Core.Path.{_≡_, refl, sym, ap, _∙_}
-use mathlib.Core.List.{List}
-use Prim.Native.Nat.{ℕ}
+use mathlib.Core.Option.{none}
+use mathlib.Core.List.{List, _++_}
+use Prim.Native.Nat.{ℕ, _*_, _≤_}
 use native.Mathlib.Omega.{arith}
-use lib.ListN.{length}
-use Rattle.theory.specs.ProgramText.{Command, variables}
-use Rattle.theory.specs.TurnedDown.{Answer, done, refused, read-list}
+use borrow.Author.Tests.{le-leb}
+use lib.ListN.{length, take, drop}
+use lib.Seq.{take-at}
+use Rattle.theory.specs.ProgramText.{Command, variables, list-of}
+use Rattle.theory.specs.TurnedDown.{Answer, done, refused, answer, after, mapped, read-text, read-list, rule-19, lent-after}
+use Rattle.theory.specs.Claims.{Accepted}
 use Rattle.theory.specs.declared.Refusal.{Refusal}
-use Rattle.theory.proofs.Nesting.{list-read, reads-accepted}
+use Rattle.theory.proofs.Nesting.{short, list-read, reads-accepted}
 use Rattle.theory.proofs.Lists.{lists-round-trip}
-use Rattle.program.specs.Answers.{program-of, checked}
+use Rattle.program.specs.Answers.{program-of, checked, read-into}
 use Rattle.program.specs.declared.Program.{Program}
 use Rattle.program.specs.declared.Checked.the-variants as C
 use Rattle.source.specs.Lines.{program, Holds, Given}
+use Rattle.source.proofs.Program.{list-length, program-list, holds-list}
 
 -- An accepted answer, and a refused one
 pub record AcceptedAs (a : Answer (List Command)) (x : Program) : Type 0 where
@@ -49,3 +54,49 @@ read-given l x a =
       lines-are = rw same (a .lines-are);
       variables-are = rw same (a .variables-are);
     }
+
+-- Texts. A buffer for 512 commands has room for any accepted program
+
+module _ (lent : List ℕ) (t : List ℕ) (size : length lent ≡ 1536) where
+  room : (p : List Command) → Accepted p → rule-19 lent (list-of p) ≡ none
+  unfolding rule-19
+  room p h =
+      let few : length (list-of p) ≤ length lent = omega (arith, list-length p, short p h) in
+      rw (le-leb (length (list-of p)) (length lent) few)
+
+  pub buffer-read : read-into lent t ≡ read-text t
+  unfolding read-into
+  buffer-read = go (read-text t) refl
+    where
+      go : (a : Answer (List Command)) → read-text t ≡ a → after a (λ p. answer (rule-19 lent (list-of p)) p) ≡ a
+      go (done p) e = rw (room p (reads-accepted .0 t p e))
+      go (refused r) e = refl
+
+  -- What stands in the buffer then, of an accepted text
+  module _ (x : Program) (a : AcceptedAs (read-text t) x) (last : List ℕ)
+      (stored : last ≡ lent-after lent (mapped list-of (read-into lent t))) where
+    abbrev p : List Command
+    p = a .commands
+
+    accepts : Accepted p
+    accepts = reads-accepted .0 t p (a .is-done)
+
+    pub numbers-few : 3 * x .lines ≤ 1536
+    numbers-few = omega (arith, short p accepts, a .lines-are)
+
+    last-is : last ≡ list-of p ++ drop (length (list-of p)) lent
+    unfolding lent-after
+    last-is = stored ∙ rw (buffer-read, a .is-done)
+
+    pub numbers-are : take (3 * x .lines) last ≡ list-of p
+    numbers-are = rw last-is (take-at (list-of p) (drop (length (list-of p)) lent) (3 * x .lines) (omega (arith, list-length p, a .lines-are)))
+
+    pub text-given : Given (take (3 * x .lines) last) (x .lines) (x .variables)
+    text-given = rw numbers-are (record {
+      holds = holds-list p accepts;
+      lines-are = rw (program-list p) (a .lines-are);
+      variables-are = rw (program-list p) (a .variables-are);
+    })
+
+    pub text-program : program (take (3 * x .lines) last) ≡ p
+    text-program = rw numbers-are (program-list p)

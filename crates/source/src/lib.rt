@@ -5,7 +5,7 @@ ghost use lib.ListN.{length, getD, set};
 ghost use Rattle.source.specs.Answers.{source-state, fresh-state, run-from, HandsBack};
 ghost use Rattle.source.specs.Lines.{program, Holds, Fits, Entered, Linked, Filled, Ready, Stepped, Startable, run-at, outcome-of, all-values, all-passes, Deep, Given};
 ghost use Rattle.theory.specs.Source.{depth};
-ghost use Rattle.theory.specs.TurnedDown.{after, read-list, is-value, is-passes, is-source};
+ghost use Rattle.theory.specs.TurnedDown.{after, read-text, read-list, is-value, is-passes, is-source};
 use program::Checked;
 use theory::End;
 use theory::Refusal;
@@ -357,6 +357,23 @@ pub fn run_list(list: &[u8], state: State, budget: u32) -> Run
 {
     match program::check_list(list) {
         Checked::Accepted(p) => run_accepted(list, p.lines, p.variables, state, budget),
+        Checked::Refused(refusal) => Run {
+            state,
+            ended: Ended::Refused(refusal),
+        },
+    }
+}
+
+// A run of a program handed in as text: rules 1 to 8, and then 9.
+pub fn run_text(text: &[u8], state: State, budget: u32) -> Run
+    ensures { λ r. ⌜ HandsBack state (after (read-text (now (text .entry))) (run-from state budget)) r ⌝ }
+{
+    let mut list = [0u8; 1536];
+    match program::read(text, &mut list) {
+        Checked::Accepted(p) => {
+            let numbers = 3 * p.lines;
+            run_accepted(&list[..numbers], p.lines, p.variables, state, budget)
+        }
         Checked::Refused(refusal) => Run {
             state,
             ended: Ended::Refused(refusal),
