@@ -6,14 +6,18 @@ use Prim.Native.Nat.{ℕ, zero, suc, pred, _+_, _-_, _*_, _≤_, _<_}
 use native.Mathlib.Decide.{ℕ-discrete}
 use native.Mathlib.Numerals.{add-one}
 use native.Mathlib.Omega.{arith}
-use borrow.Author.Tests.{lt-ltb, le-ltb, le-leb, lt-leb, eqb-true}
+use borrow.Author.Tests.{lt-ltb, le-ltb, le-leb, lt-leb, leb-true, eqb-true}
 use lib.ListN.{length, getD}
 use lib.Dec.{leb, ltb, eqb}
 use Rattle.theory.specs.Basics.{all-below}
-use Rattle.theory.specs.ProgramText.{Command, plain, opens, closes, loop, while}
+use Rattle.theory.specs.ProgramText.{Command, plain, opens, closes, loop, while, variables}
 use Rattle.theory.specs.Source.{depth}
-use Rattle.theory.specs.TurnedDown.{is-value, is-passes}
-use Rattle.source.specs.Lines.{program, Holds, Deep, command-at, entry-of, entry-at}
+use Rattle.theory.specs.Machines.{is-limited}
+use Rattle.theory.specs.TurnedDown.{is-value, is-passes, is-source}
+use Rattle.theory.proofs.Faults.{and-first, and-second}
+use Rattle.source.specs.Answers.{source-state}
+use Rattle.source.specs.declared.State.{State}
+use Rattle.source.specs.Lines.{program, Deep, entry-at, all-values, all-passes}
 use Rattle.source.proofs.Program.{depth-last}
 use Rattle.source.proofs.Steps.{kind-at, first-at, of-kind}
 use Rattle.source.proofs.Entries.{closed-depth, off-endloop}
@@ -85,3 +89,64 @@ module _ (l es : List ℕ) (lines line : ℕ) (d : Deep l es lines line) where
     pub depth-other : (kind-at l m ≡ 5 → ⊥) → getD es m 0 ≡ depth (program l) line
     unfolding entry-at
     depth-other ne = d .enters m inside ∙ (off-endloop l m ne (depth (program l) (suc m)) ∙ ap (depth (program l)) (sym from))
+
+-- Rule 9, a test after the other. A test that fails is the answer
+module _ (l : List ℕ) (s : State) where
+  abbrev p : List Command
+  p = program l
+
+  pub no-capacity : s .capacity < 1 → false ≡ is-source p (source-state s)
+  unfolding is-source
+  no-capacity h = rw (lt-leb 1 (s .capacity) h)
+
+  module _ (some-capacity : 1 ≤ s .capacity) where
+    pub much-capacity : 1024 < s .capacity → false ≡ is-source p (source-state s)
+    unfolding is-source
+    much-capacity h = rw (le-leb 1 (s .capacity) some-capacity, lt-leb (s .capacity) 1024 h)
+
+    module _ (right-capacity : s .capacity ≤ 1024) where
+      pub no-line : s .line < 1 → false ≡ is-source p (source-state s)
+      unfolding is-source
+      no-line h = rw (le-leb 1 (s .capacity) some-capacity, le-leb (s .capacity) 1024 right-capacity, lt-leb 1 (s .line) h)
+
+      module _ (some-line : 1 ≤ s .line) where
+        pub far-line : suc (length p) < s .line → false ≡ is-source p (source-state s)
+        unfolding is-source
+        far-line h =
+            rw (
+              le-leb 1 (s .capacity) some-capacity,
+              le-leb (s .capacity) 1024 right-capacity,
+              le-leb 1 (s .line) some-line,
+              lt-leb (s .line) (suc (length p)) h,
+            )
+
+        module _ (right-line : s .line ≤ suc (length p)) where
+          -- The values, and then the passes left
+          lists-left : (all-values (s .capacity) (variables p) (s .values) && all-passes (s .capacity) (depth p (s .line)) (s .passes))
+              ≡ is-source p (source-state s)
+          unfolding is-source all-values all-passes
+          lists-left =
+              rw (
+                le-leb 1 (s .capacity) some-capacity,
+                le-leb (s .capacity) 1024 right-capacity,
+                le-leb 1 (s .line) some-line,
+                le-leb (s .line) (suc (length p)) right-line,
+              )
+
+          pub bad-values : all-values (s .capacity) (variables p) (s .values) ≡ false → false ≡ is-source p (source-state s)
+          bad-values e = (rw e refl) ∙ lists-left
+
+          pub good-values : all-values (s .capacity) (variables p) (s .values) ≡ true
+              → all-passes (s .capacity) (depth p (s .line)) (s .passes) ≡ is-source p (source-state s)
+          good-values e = (rw e refl) ∙ lists-left
+
+-- What rule 9 says of the line
+pub good-line : (p : List Command) (s : State) → is-source p (source-state s) ≡ true → (0 < s .line) × (s .line ≤ suc (length p))
+unfolding is-source
+good-line p s h =
+    let limits : (is-limited 1024 (s .capacity) && is-limited (suc (length p)) (s .line)) ≡ true = and-first _ _ (and-first _ _ h) in
+    let line : is-limited (suc (length p)) (s .line) ≡ true = and-second (is-limited 1024 (s .capacity)) _ limits in
+    (
+      leb-true 1 (s .line) (and-first (leb 1 (s .line)) _ line),
+      leb-true (s .line) (suc (length p)) (and-second (leb 1 (s .line)) _ line),
+    )

@@ -5,3 +5,6 @@ pub mod Entries
 pub mod Targets
 pub mod Underway
 pub mod Checks
+pub mod Counts
+pub mod Results
+pub mod Reading

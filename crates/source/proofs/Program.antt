@@ -75,7 +75,7 @@ kind-range (c ∷ p) (suc m) h =
     let x : Numbered c = numbered c in
     rw (x .are, three-on (x .k) (x .i) (x .j) (list-of p) (3 * m) (3 * suc m) (omega arith)) (kind-range p m (omega arith))
 
-list-length : (p : List Command) → length (list-of p) ≡ 3 * length p
+pub list-length : (p : List Command) → length (list-of p) ≡ 3 * length p
 unfolding list-of
 list-length [] = refl
 list-length (c ∷ p) = rw (numbered c .are) (omega (arith, list-length p))

@@ -8,7 +8,7 @@ use lib.ListN.{length, getD}
 use lib.Dec.{eqb}
 use Rattle.theory.specs.Limits.{state-values, state-passes}
 use Rattle.theory.specs.Basics.{present, all-below}
-use Rattle.theory.specs.ProgramText.{Command, plain, clear, increment, copy, opens, closes, loop, while, list-of, listed}
+use Rattle.theory.specs.ProgramText.{Command, plain, clear, increment, copy, opens, closes, loop, while, list-of, listed, variables}
 use Rattle.theory.specs.Runs.{Machine, Outcome, run, within}
 use Rattle.theory.specs.Source as S
 use Rattle.theory.specs.TurnedDown.{is-value, is-passes}
@@ -155,3 +155,9 @@ pub record Deep (l entries : List ℕ) (lines line : ℕ) : Type 0 where
   pub lines-are : lines ≡ length (program l)
   pub low : 0 < line
   pub high : line ≤ suc (length (program l))
+
+-- A list that holds a program of so many lines and variables
+pub record Given (l : List ℕ) (lines K : ℕ) : Type 0 where
+  pub holds : Holds l
+  pub lines-are : lines ≡ length (program l)
+  pub variables-are : K ≡ variables (program l)

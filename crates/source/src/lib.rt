@@ -1,11 +1,12 @@
 // The source interpreter of document 01.
 ghost use mathlib.Core.Path.{_≡_};
-ghost use Prim.Native.Nat.{ℕ, _+_, _-_, _*_, _<_, _≤_};
+ghost use Prim.Native.Nat.{ℕ, _+_, _-_, _*_, _<_, _≤_, min};
 ghost use lib.ListN.{length, getD, set};
-ghost use Rattle.source.specs.Answers.{fresh-state};
-ghost use Rattle.source.specs.Lines.{program, Holds, Fits, Entered, Linked, Filled, Ready, Stepped, Startable, run-at, outcome-of, all-values, all-passes, Deep};
+ghost use Rattle.source.specs.Answers.{source-state, fresh-state, run-from, HandsBack};
+ghost use Rattle.source.specs.Lines.{program, Holds, Fits, Entered, Linked, Filled, Ready, Stepped, Startable, run-at, outcome-of, all-values, all-passes, Deep, Given};
 ghost use Rattle.theory.specs.Source.{depth};
-ghost use Rattle.theory.specs.TurnedDown.{is-value, is-passes};
+ghost use Rattle.theory.specs.TurnedDown.{after, read-text, read-list, is-value, is-passes, is-source};
+use program::Checked;
 use theory::End;
 use theory::Refusal;
 
@@ -312,5 +313,101 @@ fn depth_at(list: &[u8], entries: &[u8], lines: usize, line: usize) -> usize
         entry + 1
     } else {
         entry
+    }
+}
+
+// Rule 9.
+fn is_source(list: &[u8], entries: &[u8], lines: usize, variables: usize, state: State) -> bool
+    requires { ⌜ Given (now list) lines variables × Entered (now list) (now entries) × (lines ≤ length (now entries)) ⌝ }
+    ensures { λ r. ⌜ r ≡ is-source (program (now (list .entry))) (source-state state) ⌝ }
+{
+    let capacity = state.capacity;
+    let line = state.line as usize;
+    if capacity < 1 {
+        return false;
+    }
+    if State::CAPACITY < capacity {
+        return false;
+    }
+    if line < 1 {
+        return false;
+    }
+    if lines + 1 < line {
+        return false;
+    }
+    let values = state.values;
+    if !are_values(&values, capacity, variables) {
+        return false;
+    }
+    let passes = state.passes;
+    let depth = depth_at(list, entries, lines, line);
+    are_passes(&passes, capacity, depth)
+}
+
+fn least(a: u32, b: u32) -> u32
+    ensures { λ r. ⌜ r ≡ min a b ⌝ }
+{
+    if a < b { a } else { b }
+}
+
+// A run of an accepted program: rule 9, and then the steps. Targets and entries are found here, once for the run.
+fn run_accepted(list: &[u8], lines: usize, variables: usize, state: State, budget: u32) -> Run
+    requires { ⌜ Given (now list) lines variables ⌝ }
+    ensures { λ r. ⌜ HandsBack state (run-from state budget (program (now (list .entry)))) r ⌝ }
+{
+    let mut targets = [0u16; 512];
+    let mut entries = [0u8; 512];
+    fill_targets(list, lines, &mut targets);
+    fill_entries(list, lines, &mut entries);
+    if !is_source(list, &entries, lines, variables, state) {
+        return Run {
+            state,
+            ended: Ended::Refused(Refusal { number: 9, place: 0 }),
+        };
+    }
+    let mut values = state.values;
+    let mut passes = state.passes;
+    let allowed = least(budget, State::STEPS - state.steps);
+    let stop = walk(list, &targets, &entries, lines, state.capacity, state.line, allowed, &mut values, &mut passes);
+    let end = stop.end;
+    Run {
+        state: State {
+            capacity: state.capacity,
+            line: stop.line,
+            steps: state.steps + stop.taken,
+            values,
+            passes,
+        },
+        ended: Ended::Ran(end, stop.taken),
+    }
+}
+
+// A run of a program handed in as a list: rules 3 to 8, and then 9.
+pub fn run_list(list: &[u8], state: State, budget: u32) -> Run
+    ensures { λ r. ⌜ HandsBack state (after (read-list (now (list .entry))) (run-from state budget)) r ⌝ }
+{
+    match program::check_list(list) {
+        Checked::Accepted(p) => run_accepted(list, p.lines, p.variables, state, budget),
+        Checked::Refused(refusal) => Run {
+            state,
+            ended: Ended::Refused(refusal),
+        },
+    }
+}
+
+// A run of a program handed in as text: rules 1 to 8, and then 9.
+pub fn run_text(text: &[u8], state: State, budget: u32) -> Run
+    ensures { λ r. ⌜ HandsBack state (after (read-text (now (text .entry))) (run-from state budget)) r ⌝ }
+{
+    let mut list = [0u8; 1536];
+    match program::read(text, &mut list) {
+        Checked::Accepted(p) => {
+            let numbers = 3 * p.lines;
+            run_accepted(&list[..numbers], p.lines, p.variables, state, budget)
+        }
+        Checked::Refused(refusal) => Run {
+            state,
+            ended: Ended::Refused(refusal),
+        },
     }
 }
