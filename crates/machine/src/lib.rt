@@ -10,14 +10,16 @@ pub use answers::Ended;
 pub use answers::Machine;
 pub use answers::Position;
 pub use answers::Run;
+pub use answers::Value;
 ghost use mathlib.Core.Path.{_≡_};
 ghost use Rattle.word.specs.Answers.{zipped};
-ghost use Rattle.machine.specs.Calls.{memory, handed, called, word-called, word-for, table-for, refused-at, Readable};
+ghost use Rattle.machine.specs.Calls.{memory, handed, called, word-called, word-for, table-for, refused-at, Readable, Valued};
 use crate::inside::run_numbers;
 use crate::lacking::Lack;
 use crate::lacking::first_lacking;
 use crate::lacking::start_of;
 use crate::memory::is_memory;
+use crate::store::wide;
 use theory::Refusal;
 use word::Read;
 
@@ -104,5 +106,19 @@ pub fn run(
             position: at,
             ended: Ended::Refused(r),
         },
+    }
+}
+
+// Register 1, the value of a halted word: rule 10.
+pub fn value(m: Machine, store: &[u8], lengths: &[u16]) -> Value
+    ensures { λ r. ⌜ Valued (memory m (now (store .entry)) (now (lengths .entry))) r ⌝ }
+{
+    if is_memory(m, store, lengths) {
+        Value::Length(wide(lengths[0]))
+    } else {
+        Value::Refused(Refusal {
+            number: 10,
+            place: 0,
+        })
     }
 }
