@@ -18,6 +18,7 @@ use Rattle.theory.specs.declared.Refusal.{Refusal}
 use Rattle.word.specs.Answers.{zipped}
 use Rattle.machine.specs.declared.answers.Machine.{Machine}
 use Rattle.machine.specs.declared.answers.Position.{Position}
+use Rattle.machine.specs.declared.answers.Ended.{Ended}
 use Rattle.machine.specs.declared.answers.Ended.the-variants as Ended
 use Rattle.machine.specs.declared.answers.Run.{Run}
 use Rattle.machine.specs.declared.answers.Value.{Value}
@@ -38,6 +39,10 @@ pub record Called : Type 0 where
 
 abbrev pub handed : Run → Bytes → List ℕ → Called
 handed r store lengths = record { run = r; store = store; lengths = lengths }
+
+-- How a run ended, and where the machine stands then
+abbrev pub moved-to : Position → Ended → Run
+moved-to p e = record { position = p; ended = e }
 
 -- A run that was done: the end and the steps taken, the place, the count of steps with those added, and the memory with the registers then
 abbrev pub ran : Memory → Position → Outcome W.State → Called
