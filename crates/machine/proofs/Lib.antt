@@ -14,3 +14,4 @@ pub mod Whole
 pub mod Accepted
 pub mod Answered
 pub mod ReadWord
+pub mod RegisterOne

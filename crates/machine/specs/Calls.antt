@@ -4,13 +4,13 @@ use mathlib.Core.Bool.{true}
 use mathlib.Core.Option.{none}
 use mathlib.Core.List.{List}
 use Prim.Native.Nat.{ℕ, _+_}
-use lib.ListN.{length}
+use lib.ListN.{length, take}
 use Rattle.theory.specs.Text.{Bytes}
 use Rattle.theory.specs.Runs.{Outcome}
 use Rattle.theory.specs.Word as W
-use Rattle.theory.specs.Word.{Entry}
+use Rattle.theory.specs.Word.{Symbol, Entry, bytes-of}
 use Rattle.theory.specs.Machines as M
-use Rattle.theory.specs.Machines.{Memory, refilled, is-memory, run-word}
+use Rattle.theory.specs.Machines.{Memory, contents, refilled, is-memory, run-word}
 use Rattle.theory.specs.TurnedDown.{Answer, done, refused, answer, after, mapped, rule-10, rule-15, table-rule-15, table-fault, instructions}
 use Rattle.theory.specs.TurnedDown.{read-word-for}
 use Rattle.theory.specs.declared.End.the-variants as End
@@ -18,8 +18,11 @@ use Rattle.theory.specs.declared.Refusal.{Refusal}
 use Rattle.word.specs.Answers.{zipped}
 use Rattle.machine.specs.declared.answers.Machine.{Machine}
 use Rattle.machine.specs.declared.answers.Position.{Position}
+use Rattle.machine.specs.declared.answers.Ended.{Ended}
 use Rattle.machine.specs.declared.answers.Ended.the-variants as Ended
 use Rattle.machine.specs.declared.answers.Run.{Run}
+use Rattle.machine.specs.declared.answers.Value.{Value}
+use Rattle.machine.specs.declared.answers.Value.the-variants as Value
 
 -- The memory that a call is lent
 abbrev pub memory : Machine → Bytes → List ℕ → Memory
@@ -36,6 +39,10 @@ pub record Called : Type 0 where
 
 abbrev pub handed : Run → Bytes → List ℕ → Called
 handed r store lengths = record { run = r; store = store; lengths = lengths }
+
+-- How a run ended, and where the machine stands then
+abbrev pub moved-to : Position → Ended → Run
+moved-to p e = record { position = p; ended = e }
 
 -- A run that was done: the end and the steps taken, the place, the count of steps with those added, and the memory with the registers then
 abbrev pub ran : Memory → Position → Outcome W.State → Called
@@ -83,3 +90,16 @@ pub record Readable (m : Machine) (store : Bytes) (lengths kinds operands : List
   pub good : is-memory (memory m store lengths) ≡ true
   pub paired : length kinds ≡ length operands
   pub accepted : table-fault (zipped kinds operands) ≡ none
+
+-- "The value of a halted word is register 1": rule 10, and what the register holds
+abbrev pub value-of : Memory → Answer (List Symbol)
+value-of m = mapped (λ n. contents n 1) (answer (rule-10 m) m)
+
+abbrev pub value-answer : Answer (List Symbol) → Value
+value-answer (done xs) = Value.Length (length xs)
+value-answer (refused r) = Value.Refused r
+
+-- The answer, and what stands in as many of the store's first bytes
+pub record Valued (m : Memory) (r : Value) : Type 0 where
+  pub is : r ≡ value-answer (value-of m)
+  pub bytes : (n : ℕ) → r ≡ Value.Length n → take n (m .store) ≡ bytes-of (contents m 1)

@@ -44,3 +44,10 @@ pub struct Run {
     pub position: Position,
     pub ended: Ended,
 }
+
+// The value of a halted word: register 1, which is the first so many bytes of the store; or why the call is turned down. Of a word that is
+// not halted this is what register 1 holds so far.
+pub enum Value {
+    Length(usize),
+    Refused(Refusal),
+}

@@ -10,14 +10,16 @@ pub use answers::Ended;
 pub use answers::Machine;
 pub use answers::Position;
 pub use answers::Run;
+pub use answers::Value;
 ghost use mathlib.Core.Path.{_≡_};
 ghost use Rattle.word.specs.Answers.{zipped};
-ghost use Rattle.machine.specs.Calls.{memory, handed, called, word-called, word-for, table-for, refused-at, Readable};
+ghost use Rattle.machine.specs.Calls.{memory, handed, called, word-called, word-for, table-for, refused-at, Readable, Valued, moved-to};
 use crate::inside::run_numbers;
 use crate::lacking::Lack;
 use crate::lacking::first_lacking;
 use crate::lacking::start_of;
 use crate::memory::is_memory;
+use crate::store::wide;
 use theory::Refusal;
 use word::Read;
 
@@ -105,4 +107,47 @@ pub fn run(
             ended: Ended::Refused(r),
         },
     }
+}
+
+// Register 1, the value of a halted word: rule 10.
+pub fn value(m: Machine, store: &[u8], lengths: &[u16]) -> Value
+    ensures { λ r. ⌜ Valued (memory m (now (store .entry)) (now (lengths .entry))) r ⌝ }
+{
+    if is_memory(m, store, lengths) {
+        Value::Length(wide(lengths[0]))
+    } else {
+        Value::Refused(Refusal {
+            number: 10,
+            place: 0,
+        })
+    }
+}
+
+// The two parts of what a run hands back.
+fn position_of(r: Run) -> Position
+    ensures { λ p. ⌜ p ≡ r .position ⌝ }
+{
+    r.position
+}
+
+fn ended_of(r: Run) -> Ended
+    ensures { λ e. ⌜ e ≡ r .ended ⌝ }
+{
+    r.ended
+}
+
+// One step of a word, a run of budget 1, which moves the lent record.
+pub fn step(
+    m: Machine,
+    store: &mut [u8],
+    lengths: &mut [u16],
+    at: &mut Position,
+    word: &[u8],
+) -> Ended
+    ensures { λ r. ⌜ handed (moved-to (now (at .exit)) r) (now (store .exit)) (now (lengths .exit))
+        ≡ word-called (memory m (now (store .entry)) (now (lengths .entry))) (now (at .entry)) 1 (now (word .entry)) ⌝ }
+{
+    let r = run(m, store, lengths, *at, word, 1);
+    *at = position_of(r);
+    ended_of(r)
 }
