@@ -11,3 +11,6 @@ pub mod Outside
 pub mod Running
 pub mod Rule15
 pub mod Whole
+pub mod Accepted
+pub mod Answered
+pub mod ReadWord

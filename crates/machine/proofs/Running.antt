@@ -20,7 +20,7 @@ use Rattle.theory.specs.declared.End.the-variants.{Spent, Full}
 use Rattle.theory.proofs.Budgets.{Underway, underway-start, underway-ended, underway-spent, underway-counted, underway-full, underway-step}
 use Rattle.theory.proofs.Faults.{and-second}
 use Rattle.theory.proofs.GoodMemory.{memory-is-good, contents-fit, contents-stored, contents-counted}
-use Rattle.machine.specs.declared.Step.the-variants as Step
+use Rattle.machine.specs.declared.effect.Step.the-variants as Step
 use Rattle.machine.specs.Held.{Held}
 use Rattle.word.specs.Answers.{zipped}
 use Rattle.machine.specs.Steps.{Usables, Performed, bias, placed, state}

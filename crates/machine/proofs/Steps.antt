@@ -13,7 +13,7 @@ use Rattle.theory.specs.Basics.{put}
 use Rattle.theory.specs.Runs.{within}
 use Rattle.theory.specs.Word as W
 use Rattle.theory.specs.Word.{Symbol, one, hash, Instruction, append, forward, backward, cases, perform, byte-of}
-use Rattle.machine.specs.declared.Step.the-variants.{To, Full}
+use Rattle.machine.specs.declared.effect.Step.the-variants.{To, Full}
 use Rattle.machine.specs.Held.{Held, Appended, Deleted}
 use Rattle.machine.specs.Steps.{Performed, placed, state, next-if, by-byte}
 

@@ -18,11 +18,11 @@ use Rattle.theory.specs.TurnedDown.{instructions}
 use Rattle.theory.specs.declared.End.the-variants.{Strayed}
 use Rattle.theory.proofs.Budgets.{run-ended, count-within}
 use Rattle.theory.proofs.GoodMemory.{memory-is-good, contents-stored, contents-counted}
-use Rattle.machine.specs.declared.Machine.{Machine}
-use Rattle.machine.specs.declared.Position.{Position}
-use Rattle.machine.specs.declared.Run.{Run}
-use Rattle.machine.specs.declared.Stop.{Stop}
-use Rattle.machine.specs.declared.Ended.the-variants.{Ran}
+use Rattle.machine.specs.declared.answers.Machine.{Machine}
+use Rattle.machine.specs.declared.answers.Position.{Position}
+use Rattle.machine.specs.declared.answers.Run.{Run}
+use Rattle.machine.specs.declared.inside.Stop.{Stop}
+use Rattle.machine.specs.declared.answers.Ended.the-variants.{Ran}
 use Rattle.word.specs.Answers.{zipped}
 use Rattle.machine.specs.Steps.{Usables, bias, number-of, placed}
 use Rattle.machine.specs.Inside.{Stopped, lent, run-from}

@@ -1,21 +1,25 @@
 -- What the public calls hand back, by the definitions of crate theory: a run's answer with the lent memory then, and the value.
-use mathlib.Core.Bool.{true, false}
-use mathlib.Core.Option.{Option, none, some}
+use mathlib.Core.Path.{_≡_}
+use mathlib.Core.Bool.{true}
+use mathlib.Core.Option.{none}
 use mathlib.Core.List.{List}
 use Prim.Native.Nat.{ℕ, _+_}
+use lib.ListN.{length}
 use Rattle.theory.specs.Text.{Bytes}
 use Rattle.theory.specs.Runs.{Outcome}
 use Rattle.theory.specs.Word as W
 use Rattle.theory.specs.Word.{Entry}
 use Rattle.theory.specs.Machines as M
-use Rattle.theory.specs.Machines.{Memory, refilled, run-word}
-use Rattle.theory.specs.TurnedDown.{Answer, done, refused, answer, after, mapped, rule-10, instructions}
+use Rattle.theory.specs.Machines.{Memory, refilled, is-memory, run-word}
+use Rattle.theory.specs.TurnedDown.{Answer, done, refused, answer, after, mapped, rule-10, rule-15, table-rule-15, table-fault, instructions}
+use Rattle.theory.specs.TurnedDown.{read-word-for}
 use Rattle.theory.specs.declared.End.the-variants as End
 use Rattle.theory.specs.declared.Refusal.{Refusal}
-use Rattle.machine.specs.declared.Machine.{Machine}
-use Rattle.machine.specs.declared.Position.{Position}
-use Rattle.machine.specs.declared.Ended.the-variants as Ended
-use Rattle.machine.specs.declared.Run.{Run}
+use Rattle.word.specs.Answers.{zipped}
+use Rattle.machine.specs.declared.answers.Machine.{Machine}
+use Rattle.machine.specs.declared.answers.Position.{Position}
+use Rattle.machine.specs.declared.answers.Ended.the-variants as Ended
+use Rattle.machine.specs.declared.answers.Run.{Run}
 
 -- The memory that a call is lent
 abbrev pub memory : Machine → Bytes → List ℕ → Memory
@@ -49,12 +53,11 @@ abbrev pub stands-outside : Position → Run
 stands-outside p = record { position = p; ended = Ended.Ran End.Strayed 0 }
 
 -- "Nothing lent changes"
+abbrev pub refused-at : Position → Refusal → Run
+refused-at p r = record { position = p; ended = Ended.Refused r }
+
 abbrev pub turned-down : Memory → Position → Refusal → Called
-turned-down m p r = record {
-  run = record { position = p; ended = Ended.Refused r };
-  store = m .store;
-  lengths = m .lengths;
-}
+turned-down m p r = record { run = refused-at p r; store = m .store; lengths = m .lengths }
 
 abbrev pub called : Memory → Position → ℕ → Answer (List Entry) → Called
 called m p budget (done t) = ran m p (run-word (instructions t) m (position p) budget)
@@ -63,3 +66,20 @@ called m p budget (refused r) = turned-down m p r
 -- Rule 10, then what was read of the word or the table
 abbrev pub checked : Memory → Answer (List Entry) → Answer (List Entry)
 checked m t = after (answer (rule-10 m) m) λ n. t
+
+-- A run of a word: rule 10, then 11 to 15
+unfoldable pub word-called : Memory → Position → ℕ → Bytes → Called
+word-called m p budget word = called m p budget (checked m (read-word-for (m .registers) word))
+
+-- Rule 15, of entries that the rules before it let pass, in a word and in a table
+unfoldable pub word-for : ℕ → List Entry → Answer (List Entry)
+word-for registers t = answer (rule-15 registers t) t
+
+unfoldable pub table-for : ℕ → List Entry → Answer (List Entry)
+table-for registers t = answer (table-rule-15 registers t) t
+
+-- A memory, and numbers of instructions, that the rules before 15 let pass
+pub record Readable (m : Machine) (store : Bytes) (lengths kinds operands : List ℕ) : Type 0 where
+  pub good : is-memory (memory m store lengths) ≡ true
+  pub paired : length kinds ≡ length operands
+  pub accepted : table-fault (zipped kinds operands) ≡ none

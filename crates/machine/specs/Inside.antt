@@ -14,7 +14,7 @@ use Rattle.theory.specs.Machines.{Memory, contents}
 use Rattle.theory.specs.TurnedDown.{instructions}
 use Rattle.theory.specs.declared.End.{End}
 use Rattle.theory.specs.declared.End.the-variants.{Halted, Strayed}
-use Rattle.machine.specs.declared.Stop.{Stop}
+use Rattle.machine.specs.declared.inside.Stop.{Stop}
 use Rattle.machine.specs.Held.{Held}
 use Rattle.word.specs.Answers.{zipped}
 use Rattle.machine.specs.Steps.{placed, state}

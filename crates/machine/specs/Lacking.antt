@@ -6,8 +6,8 @@ use Prim.Native.Nat.{ℕ}
 use lib.Dec.{ltb}
 use Rattle.theory.specs.Word.{Entry}
 use Rattle.theory.specs.TurnedDown.{names-register, lacks, first-entry}
-use Rattle.machine.specs.declared.Lack.{Lack}
-use Rattle.machine.specs.declared.Lack.the-variants.{At, Nothing}
+use Rattle.machine.specs.declared.lacking.Lack.{Lack}
+use Rattle.machine.specs.declared.lacking.Lack.the-variants.{At, Nothing}
 
 abbrev pub lacking : ℕ → ℕ → ℕ → Bool
 lacking registers kind operand = names-register kind && ltb registers operand

@@ -12,8 +12,8 @@ use Rattle.theory.specs.Runs.{within}
 use Rattle.theory.specs.Word as W
 use Rattle.theory.specs.Word.{Symbol, Instruction, perform}
 use Rattle.theory.specs.TurnedDown.{names-register}
-use Rattle.machine.specs.declared.Step.{Step}
-use Rattle.machine.specs.declared.Step.the-variants.{To, Full}
+use Rattle.machine.specs.declared.effect.Step.{Step}
+use Rattle.machine.specs.declared.effect.Step.the-variants.{To, Full}
 use Rattle.machine.specs.Held.{Held}
 
 -- Inside a run a place is kept as a number 1,000,000 higher, so that it never falls below 0

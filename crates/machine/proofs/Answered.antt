@@ -1,0 +1,42 @@
+-- What a call of a run answers, rule by rule.
+use mathlib.Core.Path.{_≡_, refl, sym, ap, _∙_}
+use mathlib.Core.Bool.{Bool, true, false}
+use mathlib.Core.Option.{Option, none, some}
+use mathlib.Core.List.{List}
+use Prim.Native.Nat.{ℕ}
+use Rattle.theory.specs.Word.{Entry}
+use Rattle.theory.specs.TurnedDown.{Answer, done, refused, rule-15, table-rule-15, total, refuse}
+use Rattle.theory.specs.declared.Refusal.{Refusal}
+use native.Mathlib.Omega.{arith}
+use lib.ListN.{take}
+use Rattle.machine.specs.declared.lacking.Lack.{Lack}
+use Rattle.machine.specs.declared.lacking.Lack.the-variants.{At, Nothing}
+use Rattle.machine.specs.Lacking.{first-lacking, lack-of}
+use Rattle.machine.specs.Calls.{word-for, table-for}
+use Rattle.machine.proofs.Accepted.{no-rule-15, rule-15-at}
+
+-- What the search answers, as an option again
+pub found : (o : Option ℕ) (i : ℕ) → At i ≡ lack-of o → o ≡ some i
+found none i e = let z : _≡_ {A = ℕ} 0 1 = cc in absurd (omega arith)
+found (some j) i e = cc
+
+pub found-none : (o : Option ℕ) → Nothing ≡ lack-of o → o ≡ none
+found-none none e = refl
+found-none (some j) e = let z : _≡_ {A = ℕ} 0 1 = cc in absurd (omega arith)
+
+module _ (registers : ℕ) (t : List Entry) where
+  pub word-lacks : (i : ℕ) → first-lacking registers t ≡ some i → word-for registers t ≡ refused (record { number = 15; place = total (take i t) })
+  unfolding word-for
+  word-lacks i h = rw (rule-15-at registers t i h)
+
+  pub word-passes : first-lacking registers t ≡ none → word-for registers t ≡ done t
+  unfolding word-for
+  word-passes h = rw (no-rule-15 registers t h)
+
+  pub table-lacks : (i : ℕ) → first-lacking registers t ≡ some i → table-for registers t ≡ refused (record { number = 15; place = i })
+  unfolding table-for table-rule-15
+  table-lacks i h = rw h
+
+  pub table-passes : first-lacking registers t ≡ none → table-for registers t ≡ done t
+  unfolding table-for table-rule-15
+  table-passes h = rw h

@@ -1,0 +1,161 @@
+// A run of instructions that the machine can do.
+ghost use mathlib.Core.Path.{_≡_};
+ghost use mathlib.Core.Bool.{true};
+ghost use Prim.Native.Nat.{_≤_, _<_, _+_, _^_};
+ghost use lib.ListN.{length};
+ghost use Rattle.theory.specs.Machines.{is-memory};
+ghost use Rattle.theory.specs.TurnedDown.{done};
+ghost use Rattle.word.specs.Answers.{zipped};
+ghost use Rattle.machine.specs.Steps.{Usables, bias};
+ghost use Rattle.machine.specs.Inside.{Allowance, Stopped, lent, end-past, run-from};
+ghost use Rattle.machine.specs.Calls.{memory, handed, called, stands-outside};
+use crate::answers::Ended;
+use crate::answers::Machine;
+use crate::answers::Position;
+use crate::answers::Run;
+use crate::effect::BIAS;
+use crate::effect::Step;
+use crate::effect::number;
+use crate::effect::perform;
+use crate::effect::place_of;
+use theory::End;
+
+// Where a run inside stopped, how, and after how many steps.
+struct Stop {
+    end: End,
+    steps: u32,
+    here: u32,
+}
+
+// How many steps a run may do: the budget, or what its count has left.
+fn allowance(budget: u32, steps: u32) -> u32
+    ensures { λ r. ⌜ Allowance budget steps r ⌝ }
+{
+    let left = Machine::STEPS - steps;
+    if budget <= left { budget } else { left }
+}
+
+// How a run has ended that stands past the last instruction.
+fn end_past(here: u32, last: u32) -> End
+    requires { ⌜ last < 2 ^ 31 ⌝ }
+    ensures { λ r. ⌜ r ≡ end-past here last ⌝ }
+{
+    if here == last + 1 {
+        End::Halted
+    } else {
+        End::Strayed
+    }
+}
+
+// A run from a place of the instructions, or right behind them. "Checked before each step: halted or strayed, then spent, then full".
+fn run_inside(
+    store: &mut [u8],
+    lengths: &mut [u16],
+    capacity: usize,
+    kinds: &[u8],
+    operands: &[u32],
+    from: u32,
+    steps: u32,
+    budget: u32,
+) -> Stop
+    requires { ⌜ (is-memory (lent capacity (now store) (now lengths)) ≡ true) × Usables (length (now lengths)) (now kinds) (now operands)
+        × (from ≤ bias + length (now kinds) + 1) ⌝ }
+    ensures { λ r. ⌜ Stopped capacity
+        (run-from (now (kinds .entry)) (now (operands .entry)) (lent capacity (now (store .entry)) (now (lengths .entry))) from steps budget)
+        r (now (store .exit)) (now (lengths .exit)) ⌝ }
+{
+    let last = BIAS + kinds.len() as u32;
+    let allowed = allowance(budget, steps);
+    let mut here = from;
+    let mut k: u32 = 0;
+    while BIAS < here {
+        if last < here {
+            return Stop {
+                end: end_past(here, last),
+                steps: k,
+                here,
+            };
+        }
+        if k == allowed {
+            return Stop {
+                end: End::Spent,
+                steps: k,
+                here,
+            };
+        }
+        let i = (here - BIAS - 1) as usize;
+        match perform(store, lengths, capacity, kinds[i], operands[i], here) {
+            Step::To(there) => {
+                here = there;
+            }
+            Step::Full => {
+                return Stop {
+                    end: End::Full,
+                    steps: k,
+                    here,
+                };
+            }
+        }
+        k += 1;
+    }
+    Stop {
+        end: End::Strayed,
+        steps: k,
+        here,
+    }
+}
+
+// A run that does no step, since it stands outside.
+fn strayed(at: Position) -> Run
+    ensures { λ r. ⌜ r ≡ stands-outside at ⌝ }
+{
+    Run {
+        position: at,
+        ended: Ended::Ran(End::Strayed, 0),
+    }
+}
+
+// A run of instructions that the machine can do.
+pub fn run_numbers(
+    m: Machine,
+    store: &mut [u8],
+    lengths: &mut [u16],
+    at: Position,
+    kinds: &[u8],
+    operands: &[u32],
+    budget: u32,
+) -> Run
+    requires { ⌜ (is-memory (memory m (now store) (now lengths)) ≡ true) × Usables (m .registers) (now kinds) (now operands) ⌝ }
+    ensures { λ r. ⌜ handed r (now (store .exit)) (now (lengths .exit))
+        ≡ called (memory m (now (store .entry)) (now (lengths .entry))) at budget (done (zipped (now (kinds .entry)) (now (operands .entry)))) ⌝ }
+{
+    let place = at.place;
+    let steps = at.steps;
+    let n = number(place);
+    if n < 1 {
+        return strayed(at);
+    }
+    if kinds.len() as u32 + 1 < n {
+        return strayed(at);
+    }
+    let s = run_inside(
+        store,
+        lengths,
+        m.capacity,
+        kinds,
+        operands,
+        BIAS + n,
+        steps,
+        budget,
+    );
+    let end = s.end;
+    let taken = s.steps;
+    let there = place_of(s.here);
+    Run {
+        position: Position {
+            place: there,
+            steps: steps + taken,
+        },
+        ended: Ended::Ran(end, taken),
+    }
+}
