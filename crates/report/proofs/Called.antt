@@ -28,7 +28,8 @@ module _ (p : List Command) (accepted : Accepted p) (values : List ℕ) (h : Sta
   read = rw (memory-passes (variables p) values h store lengths filled) (words-fit p accepted .1)
 
   pub word-called-ends : (r : M.Run) (store′ : Bytes) (lengths′ : List ℕ)
-      → Calls.handed r store′ lengths′ ≡ Calls.word-called (word-memory store lengths) (record { place = pos 1; steps = 0 }) 1000000 (word-text p)
+      → Calls.handed r store′ lengths′
+      ≡ Calls.word-called (word-memory store lengths) (record { place = pos 1; steps = 0 }) 1000000 (word-text p)
       → word-ended (r .ended) ≡ ended-of (tool-word p (values-of values))
   unfolding Calls.word-called
   word-called-ends r store′ lengths′ e =

@@ -4,7 +4,7 @@ use crate::writing::Ended;
 use theory::End;
 ghost use mathlib.Core.Path.{_≡_};
 ghost use mathlib.Core.List.{List};
-ghost use Rattle.theory.specs.ProgramText.{Command, variables};
+ghost use Rattle.theory.specs.ProgramText.{Command, variables as variables-of};
 ghost use Rattle.theory.specs.Translation.{word-text};
 ghost use Rattle.theory.specs.RunTool.{tool-word};
 ghost use Rattle.theory.specs.Claims.{Accepted};
@@ -27,7 +27,7 @@ fn of_word(ended: machine::Ended) -> Ended
 // The word's run.
 fn run_word(word: &[u8], variables: usize, values: [u32; 32]) -> Ended
     requires { ⌜ Starts variables values ⌝ }
-    ensures { λ r. ⌜ ((p : List Command) → Accepted p → now (word .entry) ≡ word-text p → variables ≡ Rattle.theory.specs.ProgramText.variables p
+    ensures { λ r. ⌜ ((p : List Command) → Accepted p → now (word .entry) ≡ word-text p → variables ≡ variables-of p
         → r ≡ ended-of (tool-word p (values-of values))) ⌝ }
 {
     let mut store = [0u8; 65536];

@@ -48,7 +48,8 @@ returns c p accepted word named =
     let starts : Starts (variables p) values = subst (λ K. Starts K values) named (start .pre) in
     let held : Filled (holding (variables p) (values-of values)) store lengths
     = subst (λ K. Filled (holding K (values-of values)) store lengths) named (filled .fill .ensures) in
-    let called = run .run .ensures ∙ ap₂ {C = Called} (λ at w. word-called (word-memory store lengths) at 1000000 w) (fresh .fresh .ensures) word in
+    let calls : _ → _ → Called = λ at w. word-called (word-memory store lengths) at 1000000 w in
+    let called = run .run .ensures ∙ ap₂ {C = Called} calls (fresh .fresh .ensures) word in
     c .of-word .ensures ∙ word-called-ends p accepted values starts store lengths held (run .run .result) _ _ called
 
 pub run-word-spec : {M : Type 1} → statement M
