@@ -6,3 +6,4 @@ pub mod Values
 pub mod Sheets
 pub mod Printing
 pub mod Underway
+pub mod Called

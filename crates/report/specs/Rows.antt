@@ -11,6 +11,9 @@ use Rattle.theory.specs.Word as W
 use Rattle.theory.specs.Translation.{word-text}
 use Rattle.theory.specs.TurnedDown.{done, answer, read-list}
 use Rattle.theory.specs.RunTool.{tool-source, tool-word, header, rows-of, tool-fault, printed}
+use Rattle.theory.specs.declared.End.the-variants.{Spent}
+use Rattle.machine.specs.declared.answers.Ended as M
+use Rattle.report.specs.declared.writing.Ended.{Ended}
 use Rattle.report.specs.declared.writing.Row.{Row}
 use Rattle.report.specs.Puts.{Put, Within}
 
@@ -18,11 +21,19 @@ use Rattle.report.specs.Puts.{Put, Within}
 abbrev pub commands : Bytes → List Command
 commands list = present (listed list)
 
+-- How a run of the definitions ended, and how a run of a word or a source did. A refusal, which does not come, counts as no step
+abbrev pub ended-of : {S : Type 0} → Outcome S → Ended
+ended-of o = record { end = o .end; steps = o .steps }
+
+abbrev pub word-ended : M.Ended → Ended
+word-ended (M.Ended.Ran e n) = record { end = e; steps = n }
+word-ended (M.Ended.Refused r) = record { end = Spent; steps = 0 }
+
 -- What is printed of the two runs of a line
 unfoldable pub row-of : Outcome S.State → Outcome W.State → Row
 row-of s w = record {
-  source = record { end = s .end; steps = s .steps };
-  word = record { end = w .end; steps = w .steps };
+  source = ended-of s;
+  word = ended-of w;
   first = s .state .values 0;
 }
 

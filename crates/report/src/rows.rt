@@ -1,0 +1,44 @@
+// The runs of a row: the word's from a fresh machine, and the source's from a fresh state of the same values.
+use crate::fresh::fill;
+use crate::writing::Ended;
+use theory::End;
+ghost use mathlib.Core.Path.{_≡_};
+ghost use mathlib.Core.List.{List};
+ghost use Rattle.theory.specs.ProgramText.{Command, variables as variables-of};
+ghost use Rattle.theory.specs.Translation.{word-text};
+ghost use Rattle.theory.specs.RunTool.{tool-word};
+ghost use Rattle.theory.specs.Claims.{Accepted};
+ghost use Rattle.report.specs.Fresh.{values-of, Starts};
+ghost use Rattle.report.specs.Rows.{word-ended, ended-of};
+
+// How a word's run ended. A refusal does not come: a word of the translation passes every rule.
+fn of_word(ended: machine::Ended) -> Ended
+    ensures { λ r. ⌜ r ≡ word-ended ended ⌝ }
+{
+    match ended {
+        machine::Ended::Ran(end, steps) => Ended { end, steps },
+        machine::Ended::Refused(_) => Ended {
+            end: End::Spent,
+            steps: 0,
+        },
+    }
+}
+
+// The word's run.
+fn run_word(word: &[u8], variables: usize, values: [u32; 32]) -> Ended
+    requires { ⌜ Starts variables values ⌝ }
+    ensures { λ r. ⌜ ((p : List Command) → Accepted p → now (word .entry) ≡ word-text p → variables ≡ variables-of p
+        → r ≡ ended-of (tool-word p (values-of values))) ⌝ }
+{
+    let mut store = [0u8; 65536];
+    let mut lengths = [0u16; 64];
+    fill(&mut store, &mut lengths, values, variables);
+    let m = machine::Machine {
+        registers: 64,
+        capacity: 1024,
+    };
+    let at = machine::Position::fresh();
+    let run = machine::run(m, &mut store, &mut lengths, at, word, 1000000);
+    let ended = run.ended;
+    of_word(ended)
+}
