@@ -1,0 +1,32 @@
+// The library for the tablets' host: its entries on numbers and slices, to be called from C by include/mudzkvopi.h. Each entry hands its arguments on to
+// the crate that does the work, and packs what comes back into one number.
+mod packing;
+mod states;
+
+ghost use mathlib.Core.Path.{_≡_};
+ghost use Rattle.word.specs.Answers.{zipped};
+ghost use Rattle.host.specs.Entries.{ReadsWord, WritesWord};
+
+// The version of these entries.
+#[no_mangle]
+pub extern "C" fn mudzkvopi_version() -> u32
+    ensures { λ r. ⌜ r ≡ 1 ⌝ }
+{
+    1
+}
+
+// A word read into kinds and operands: rules 11 to 14, then 19.
+#[no_mangle]
+pub extern "C" fn mudzkvopi_read_word(word: &[u8], kinds: &mut [u8], operands: &mut [u32]) -> u64
+    ensures { λ r. ⌜ ReadsWord (now (word .entry)) (now (kinds .entry)) (now (operands .entry)) r (now (kinds .exit)) (now (operands .exit)) ⌝ }
+{
+    packing::word_read(word::read(word, &mut *kinds, &mut *operands))
+}
+
+// Kinds and operands written as a word: rules 11, 13 and 14 as for tables, then 19.
+#[no_mangle]
+pub extern "C" fn mudzkvopi_write_word(kinds: &[u8], operands: &[u32], word: &mut [u8]) -> u64
+    ensures { λ r. ⌜ WritesWord (zipped (now (kinds .entry)) (now (operands .entry))) (now (word .entry)) r (now (word .exit)) ⌝ }
+{
+    packing::word_written(word::write(kinds, operands, &mut *word))
+}
