@@ -1,4 +1,5 @@
 // Programs as text and as a list of three numbers a command (document 01, "The program text"): checked by rules 1 to 8, read and written.
+mod line; // line.rt: the three numbers of a line
 mod nest; // nest.rt: rules 4 to 7, for one command under the pairs that are open
 
 use nest::Judged;

@@ -19,7 +19,7 @@ use Rattle.word.specs.declared.answers.Read.the-variants.{Done, Refused}
 use Rattle.word.specs.Scan.{kind-number, item, item-at, ones-at, hashes-at, fault-place, scan-answer}
 use Rattle.word.proofs.Items.{Known, entries-at, next-past, next-within}
 
-total-append : (t u : List Entry) → total (t ++ u) ≡ total t + total u
+pub total-append : (t u : List Entry) → total (t ++ u) ≡ total t + total u
 total-append [] u = omega arith
 total-append (e ∷ t) u = omega (arith, total-append t u)
 

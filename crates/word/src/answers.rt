@@ -1,4 +1,5 @@
 // The types that this crate's entries take and hand back.
+ghost use mathlib.Core.Path.{_≡_};
 use theory::Refusal;
 
 // An instruction: its kind, the number of # (1 to 5), and its operand, the number of 1s before them.
@@ -25,4 +26,11 @@ pub enum Read {
 pub enum Written {
     Done(usize),
     Refused(Refusal),
+}
+
+// The refusal of a rule at a place.
+pub fn refused(number: u32, place: usize) -> Read
+    ensures { λ r. ⌜ r ≡ Read.Refused (record { number = number; place = place }) ⌝ }
+{
+    Read::Refused(Refusal { number, place })
 }

@@ -2,8 +2,11 @@
 // kinds and operands, or one slice of records.
 mod answers;
 mod reading;
+mod writing;
 
 pub use answers::Instruction;
 pub use answers::Read;
 pub use answers::Written;
 pub use reading::read;
+pub use writing::check;
+pub use writing::write;

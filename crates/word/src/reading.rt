@@ -7,7 +7,7 @@ ghost use Rattle.word.specs.Answers.{read-answer, ReadsInto};
 ghost use Rattle.word.specs.Scan.{run, symbols, kind-number, item-at, fault-place, Readable, scan-answer, Fillable, Filled};
 use crate::answers::Instruction;
 use crate::answers::Read;
-use theory::Refusal;
+use crate::answers::refused;
 
 // An instruction of a word, and where the next one starts. Kind 0 stands for a number of # that is none of 1 to 5.
 struct Item {
@@ -72,12 +72,6 @@ fn item_at(word: &[u8], at: usize) -> Item
         operand: (middle - at) as u32,
         next,
     }
-}
-
-fn refused(number: u32, place: usize) -> Read
-    ensures { λ r. ⌜ r ≡ Read.Refused (record { number = number; place = place }) ⌝ }
-{
-    Read::Refused(Refusal { number, place })
 }
 
 // Where an item that starts at `at` and is no instruction has its fault: at its start where it has no 1, at its end where it has no #, and else at its

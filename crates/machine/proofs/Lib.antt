@@ -1,0 +1,13 @@
+pub mod Lists
+pub mod Shift
+pub mod Places
+pub mod Rule10
+pub mod Registers
+pub mod OneRegister
+pub mod Signs
+pub mod Steps
+pub mod Instructions
+pub mod Outside
+pub mod Running
+pub mod Rule15
+pub mod Whole

@@ -1,0 +1,21 @@
+use Rattle.machine.proofs.Signs as signs
+use mir.Syntax.{w32}
+use mir.Facts.{toZ-pos, toZ-ofZ, fits-natAbs}
+use mathlib.Core.Path.{_∙_, refl, ap}
+use borrow.Author.Needs.{needs}
+use Rattle.machine.proofs.below.Statement.{statement}
+use Rattle.machine.proofs.below.Tie as tie
+use Rattle.machine.proofs.below.Reads as reads
+use Rattle.machine.proofs.below.Lts as lts
+
+cast-result : tie.Need-cast-result
+cast-result c = search needs
+
+sub-result : tie.Need-sub-result
+sub-result c = rw (toZ-pos w32 (c .pre), signs.zero-less) (signs.sfits-neg _ (c .pre))
+
+returns : tie.Need-returns
+returns c = toZ-ofZ (sub-result c) ∙ signs.negated _ (c .pre)
+
+pub below-spec : {M : Type 1} → statement M
+below-spec = tie.close (tie.spec cast-result sub-result returns)

@@ -1,0 +1,17 @@
+use borrow.Author.Needs.{needs}
+use Rattle.machine.proofs.next_if.Statement.{statement}
+use Rattle.machine.proofs.next_if.Tie as tie
+use Rattle.machine.proofs.next_if.Reads as reads
+use Rattle.machine.proofs.next_if.Lts as lts
+
+add-t5 : tie.Need-add-t5
+add-t5 c = search needs
+
+returns : tie.Need-returns
+returns c = rw (c .if1 .taken)
+
+returns-2 : tie.Need-returns-2
+returns-2 c = rw (c .if1 .left)
+
+pub next-if-spec : {M : Type 1} → statement M
+next-if-spec = tie.close (tie.spec add-t5 returns returns-2)

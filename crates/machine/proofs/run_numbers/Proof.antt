@@ -1,0 +1,129 @@
+use mathlib.Core.Path.{_≡_, refl, sym, ap, _∙_, subst}
+use Prim.Native.Nat.{ℕ, _+_, _≤_}
+use native.Mathlib.Omega.{arith}
+use mir.Facts.{toZ-ofZ}
+use mir.Syntax.{w32}
+use lib.ListN.{length}
+use Rattle.theory.specs.Limits.{last-count}
+use Rattle.theory.specs.Runs.{Outcome}
+use Rattle.theory.specs.Word.{State}
+use Rattle.theory.specs.Machines.{run-word}
+use Rattle.theory.specs.TurnedDown.{instructions}
+use Rattle.word.specs.Answers.{zipped}
+use Rattle.machine.specs.Steps.{bias, number-of}
+use Rattle.machine.specs.Inside.{Stopped, lent, run-from}
+use Rattle.machine.specs.Calls.{memory, position}
+use Rattle.machine.proofs.Whole.{outside-low, outside-high, lent-count, lent-good, whole-outside, whole-is, whole-count, whole-stopped}
+use borrow.Author.Needs.{needs}
+use Rattle.machine.proofs.run_numbers.Statement.{statement}
+use Rattle.machine.proofs.run_numbers.Tie as tie
+use Rattle.machine.proofs.run_numbers.Reads as reads
+use Rattle.machine.proofs.run_numbers.Lts as lts
+use Rattle.machine.proofs.number.Reads as number-reads
+use Rattle.machine.proofs.place_of.Reads as place-of-reads
+use Rattle.machine.proofs.run_inside.Reads as run-inside-reads
+use Rattle.machine.proofs.strayed.Reads as strayed-reads
+
+-- what `number` returns, of the place itself
+is : (c : tie.After-number) → c .number .result ≡ number-of (c .before .before .before .before .before .before .args .at .place)
+is c = c .number .ensures ∙ ap number-of (toZ-ofZ {w = w32} {z = c .before .before .before .before .before .before .args .at .place} (record { sfits = c .before .struct-told .given .0 .1 }))
+
+steps-fit : (c : tie.After-struct-told) → c .before .before .before .before .before .args .at .steps ≤ last-count
+steps-fit c = omega (arith, c .struct-told .given .1 .0 .1)
+
+number-requires : tie.Need-number-requires
+number-requires c κs = search needs
+
+strayed-requires : tie.Need-strayed-requires
+strayed-requires c κs = search needs
+
+returns : tie.Need-returns
+returns c =
+    let a = c .before .before .before .before .before .before .before .before .args in
+    let p = c .before .before .before .before .before .before .before .before .pre in
+    let low = outside-low (length (a .kinds .now)) (a .at .place) (omega (arith, is (c .before .before), c .before .if1 .taken)) in
+    rw (c .strayed .ensures) (whole-outside (a .m) (a .store .now) (a .lengths .now) (p .0) (a .kinds .now) (a .operands .now) (p .1) (a .at) (a .budget) low)
+
+cast-if2 : tie.Need-cast-if2
+cast-if2 c = search needs
+
+add-if2 : tie.Need-add-if2
+add-if2 c = search needs
+
+strayed-requires-2 : tie.Need-strayed-requires-2
+strayed-requires-2 c κs = search needs
+
+returns-2 : tie.Need-returns-2
+returns-2 c =
+    let a = c .before .before .before .before .before .before .before .before .before .args in
+    let p = c .before .before .before .before .before .before .before .before .before .pre in
+    let high = outside-high (length (a .kinds .now)) (a .at .place) (omega (arith, is (c .before .before .before), c .before .if2 .taken)) in
+    rw (c .strayed2 .ensures) (whole-outside (a .m) (a .store .now) (a .lengths .now) (p .0) (a .kinds .now) (a .operands .now) (p .1) (a .at) (a .budget) high)
+
+add-run-inside : tie.Need-add-run-inside
+add-run-inside c = search needs
+
+run-inside-requires : tie.Need-run-inside-requires
+run-inside-requires c κs =
+    let a = c .before .before .before .before .before .before .before .before .before .before .args in
+    let p = c .before .before .before .before .before .before .before .before .before .before .pre in
+    let count = lent-count (a .m) (a .store .now) (a .lengths .now) (p .0) in
+    (lent-good (a .m) (a .store .now) (a .lengths .now) (p .0), rw count (p .1), omega (arith, c .before .before .if2 .left))
+
+-- what the run from inside returns, of the whole run
+stopped : (c : tie.After-run-inside)
+    → let a = c .before .before .before .before .before .before .before .before .before .before .before .args in
+    let o = run-word (instructions (zipped (a .kinds .now) (a .operands .now))) (memory (a .m) (a .store .now) (a .lengths .now)) (position (a .at)) (a .budget) in
+    Stopped (a .m .capacity) o (c .run-inside .result) (c .run-inside .last .0) (c .run-inside .last .1 .0)
+stopped c =
+    let a = c .before .before .before .before .before .before .before .before .before .before .before .args in
+    let p = c .before .before .before .before .before .before .before .before .before .before .before .pre in
+    let n = is (c .before .before .before .before .before) in
+    let first : 1 ≤ number-of (a .at .place) = omega (arith, n, c .before .before .before .before .if1 .left) in
+    subst (λ (o : Outcome State). Stopped (a .m .capacity) o (c .run-inside .result) (c .run-inside .last .0) (c .run-inside .last .1 .0))
+    (ap (λ (k : ℕ). run-from (a .kinds .now) (a .operands .now) (lent (a .m .capacity) (a .store .now) (a .lengths .now)) (bias + k) (a .at .steps) (a .budget)) n
+    ∙ whole-is (a .m) (a .store .now) (a .lengths .now) (p .0) (a .kinds .now) (a .operands .now) (p .1) (a .at) (a .budget) first)
+    (c .run-inside .ensures)
+
+place-of-requires : tie.Need-place-of-requires
+place-of-requires c κs = search needs
+
+add-t18 : tie.Need-add-t18
+add-t18 c =
+    let a = c .before .before .before .before .before .before .before .before .before .before .before .before .before .before .before .before .args in
+    let p = c .before .before .before .before .before .before .before .before .before .before .before .before .before .before .before .before .pre in
+    let most = whole-count (a .m) (a .store .now) (a .lengths .now) (p .0) (a .kinds .now) (a .operands .now) (p .1) (a .at) (a .budget) (steps-fit (c .before .before .before .before .before .before .before .before .before .before .before)) in
+    omega (arith, most, stopped (c .before .before .before .before .before) .steps)
+
+same-length : tie.Need-same-length
+same-length c = search needs
+
+same-length-2 : tie.Need-same-length-2
+same-length-2 c = search needs
+
+returns-3 : tie.Need-returns-3
+returns-3 c =
+    let a = c .before .before .before .before .before .before .before .before .before .before .before .before .before .before .before .before .args in
+    let p = c .before .before .before .before .before .before .before .before .before .before .before .before .before .before .before .before .pre in
+    let done = c .before .before .before .before .before .run-inside in
+    whole-stopped (a .m) (a .store .now) (a .lengths .now) (p .0) (a .kinds .now) (a .operands .now) (p .1) (a .at) (a .budget) (done .result) _ _ _
+    (toZ-ofZ (record { sfits = c .place-of .ok }) ∙ c .place-of .ensures) (done .kept .1 .0) (stopped (c .before .before .before .before .before))
+
+pub run-numbers-spec : {M : Type 1} → statement M
+run-numbers-spec =
+    tie.close
+    (tie.spec
+    number-requires
+    strayed-requires
+    returns
+    cast-if2
+    add-if2
+    strayed-requires-2
+    returns-2
+    add-run-inside
+    run-inside-requires
+    place-of-requires
+    add-t18
+    same-length
+    same-length-2
+    returns-3)

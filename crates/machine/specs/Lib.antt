@@ -1,0 +1,5 @@
+pub mod Held
+pub mod Steps
+pub mod Lacking
+pub mod Inside
+pub mod Calls

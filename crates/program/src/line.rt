@@ -1,0 +1,197 @@
+// A line of a program's text, read as the three numbers of its command.
+ghost use mathlib.Core.Path.{_≡_};
+ghost use mathlib.Core.Option.{some};
+ghost use mathlib.Core.List.{_∷_, []};
+ghost use Prim.Native.Nat.{ℕ, _+_, _-_, _*_, _≤_, _<_};
+ghost use lib.ListN.{length, drop, take};
+ghost use lib.Seq.{sets};
+ghost use Rattle.theory.specs.Text.{after, same, digits, value-after, name, name-of};
+ghost use Rattle.theory.specs.ProgramText.{around, command};
+ghost use Rattle.program.specs.Lines.{limited, is-some, found-in, of-kind, numbered, from-name, assignment as assignment-of, line-length, all-numbers};
+
+// Kind (0 where a line is none of the spellings), index, and a copy's source index. An index above 31 is 32.
+pub struct Numbers {
+    pub kind: u8,
+    pub index: u8,
+    pub source: u8,
+}
+
+// A name at a place of a line: where it ends, and its index.
+pub enum Named {
+    To { end: usize, index: u8 },
+    No,
+}
+
+// The digits at a place of a line: where they end, and the number that they spell.
+pub struct Digits {
+    pub end: usize,
+    pub index: u8,
+}
+
+const NO_COMMAND: Numbers = Numbers {
+    kind: 0,
+    index: 0,
+    source: 0,
+};
+
+// One digit more, with 32 for all above 31.
+fn shifted(index: u8, digit: u8) -> u8
+    requires { ⌜ 48 ≤ digit ⌝ }
+    ensures { λ r. ⌜ r ≡ limited (index * 10 + (digit - 48)) ⌝ }
+{
+    let all = index as usize * 10 + (digit - 48) as usize;
+    if all < 32 { all as u8 } else { 32 }
+}
+
+fn digits_at(s: &[u8], at: usize) -> Digits
+    requires { ⌜ at ≤ length (now s) ⌝ }
+    ensures end { λ r. ⌜ (r .end ≡ at + length (digits (drop at (now (s .entry))) .value)) × (r .end ≤ length (now (s .entry))) ⌝ }
+    ensures index { λ r. ⌜ r .index ≡ limited (value-after 0 (digits (drop at (now (s .entry))) .value)) ⌝ }
+{
+    let mut end = at;
+    let mut index = 0;
+    while end < s.len() {
+        let b = s[end];
+        if b < 48 {
+            return Digits { end, index };
+        }
+        if 57 < b {
+            return Digits { end, index };
+        }
+        index = shifted(index, b);
+        end += 1;
+    }
+    Digits { end, index }
+}
+
+fn name_at(s: &[u8], at: usize) -> Named
+    requires { ⌜ at ≤ length (now s) ⌝ }
+    ensures { λ r. ⌜ r ≡ found-in (length (now (s .entry))) (name (drop at (now (s .entry)))) ⌝ }
+{
+    if s.len() <= at {
+        return Named::No;
+    }
+    if s[at] != 88 {
+        return Named::No;
+    }
+    let d = digits_at(s, at + 1);
+    let end = d.end;
+    if end == at + 1 {
+        return Named::No;
+    }
+    if s[at + 1] == 48 {
+        if at + 2 < end {
+            return Named::No;
+        }
+    }
+    Named::To {
+        end,
+        index: d.index,
+    }
+}
+
+// Whether a word stands at a place of a line.
+fn stands(s: &[u8], at: usize, word: &[u8]) -> bool
+    requires { ⌜ at ≤ length (now s) ⌝ }
+    ensures { λ r. ⌜ r ≡ is-some (after (now (word .entry)) (drop at (now (s .entry)))) ⌝ }
+{
+    let mut i = 0;
+    while i < word.len() {
+        if s.len() - at <= i {
+            return false;
+        }
+        if s[at + i] != word[i] {
+            return false;
+        }
+        i += 1;
+    }
+    true
+}
+
+// Whether a word is what a line has from a place on.
+fn ends(s: &[u8], at: usize, word: &[u8]) -> bool
+    requires { ⌜ at ≤ length (now s) ⌝ }
+    ensures { λ r. ⌜ r ≡ same (now (word .entry)) (drop at (now (s .entry))) ⌝ }
+{
+    if s.len() - at == word.len() {
+        stands(s, at, word)
+    } else {
+        false
+    }
+}
+
+// The opening or closing line of a pair: a name between two words.
+fn pair_line(s: &[u8], kind: u8, front: &[u8], back: &[u8]) -> Numbers
+    ensures { λ r. ⌜ r ≡ of-kind kind (around (now (front .entry)) (now (back .entry)) (now (s .entry))) ⌝ }
+{
+    if stands(s, 0, front) {
+        match name_at(s, front.len()) {
+            Named::To { end, index } => {
+                if ends(s, end, back) {
+                    return Numbers {
+                        kind,
+                        index,
+                        source: 0,
+                    };
+                }
+            }
+            Named::No => {}
+        }
+    }
+    NO_COMMAND
+}
+
+// An increment or a copy of the variable whose name ends at a place of a line: by the name after the arrow.
+fn assigned(s: &[u8], end: usize, index: u8) -> Numbers
+    requires { ⌜ end + 4 ≤ length (now s) ⌝ }
+    ensures { λ r. ⌜ ((i : ℕ) → take end (now (s .entry)) ≡ name-of i → index ≡ limited i → r ≡ numbered (from-name i (drop (end + 4) (now (s .entry))))) ⌝ }
+{
+    let at = end + 4;
+    match name_at(s, at) {
+        Named::To {
+            end: last,
+            index: source,
+        } => {
+            if s.len() <= last {
+                return Numbers {
+                    kind: 3,
+                    index,
+                    source,
+                };
+            }
+            if ends(s, last, b" + 1") {
+                if ends(&s[..last], at, &s[..end]) {
+                    return Numbers {
+                        kind: 2,
+                        index,
+                        source: 0,
+                    };
+                }
+            }
+        }
+        Named::No => {}
+    }
+    NO_COMMAND
+}
+
+// A line that begins with a name: a clear, an increment or a copy.
+fn assignment(s: &[u8]) -> Numbers
+    ensures { λ r. ⌜ r ≡ numbered (assignment-of (now (s .entry))) ⌝ }
+{
+    match name_at(s, 0) {
+        Named::To { end, index } => {
+            if ends(s, end, b" <- 0") {
+                return Numbers {
+                    kind: 1,
+                    index,
+                    source: 0,
+                };
+            }
+            if stands(s, end, b" <- ") {
+                return assigned(s, end, index);
+            }
+        }
+        Named::No => {}
+    }
+    NO_COMMAND
+}

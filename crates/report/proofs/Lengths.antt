@@ -1,0 +1,33 @@
+-- How long the parts of the report may be: a number, the name of an end, the line of a row.
+use mathlib.Core.Path.{_≡_, refl}
+use mathlib.Core.Bool.{Bool, true, false}
+use mathlib.Core.List.{[], _∷_, _++_}
+use Prim.Native.Nat.{ℕ, zero, suc, _+_, _*_, _/_, _%_, _^_, _≤_, _<_}
+use native.Mathlib.Nat.{div-lt-iff-lt-mul, pow-suc}
+use native.Mathlib.Omega.{arith}
+use lib.Dec.{ltb}
+use lib.ListN.{length, length-append}
+use borrow.Author.Tests.{ltb-true, ltb-false}
+use Rattle.theory.specs.Text.{decimal}
+use Rattle.theory.specs.RunTool.{end-name}
+use Rattle.theory.specs.declared.End.{End}
+use Rattle.theory.specs.declared.End.the-variants.{Halted, Strayed, Spent, Full}
+use Rattle.theory.proofs.Numerals.{decimal-small, decimal-large}
+
+pub decimal-short : (k n : ℕ) → n < 10 ^ suc k → length (decimal n) ≤ suc k
+decimal-short zero n h = rw (decimal-small n h) (omega arith)
+decimal-short (suc k) n h = go (ltb n 10) refl (decimal-short k (n / 10) (div-lt-iff-lt-mul (omega arith) .1 (rw (pow-suc 10 (suc k)) at h)))
+  where
+    go : (t : Bool) → ltb n 10 ≡ t → length (decimal (n / 10)) ≤ suc k → length (decimal n) ≤ suc (suc k)
+    go true e f = rw (decimal-small n (ltb-true n 10 e)) (omega arith)
+    go false e f = rw (decimal-large n (ltb-false n 10 e), length-append (decimal (n / 10)) ((48 + n % 10) ∷ [])) (omega arith)
+
+-- "the steps", an X0 and a place are numbers of 64 bits at most
+pub decimal-fits : (n : ℕ) → n < 2 ^ 64 → length (decimal n) ≤ 20
+decimal-fits n h = decimal-short 19 n (omega arith)
+
+pub end-short : (e : End) → length (end-name e) ≤ 7
+end-short Halted = omega arith
+end-short Strayed = omega arith
+end-short Spent = omega arith
+end-short Full = omega arith

@@ -1,0 +1,37 @@
+-- `put_ended` meets its contract: the end, a blank, and the steps.
+use native.Mathlib.Omega.{arith}
+use Rattle.report.proofs.Puts.{few-then, few-byte}
+use borrow.Author.Needs.{needs}
+use Rattle.report.proofs.writing.put_ended.Statement.{statement}
+use Rattle.report.proofs.writing.put_ended.Tie as tie
+
+put-end-requires : tie.Need-put-end-requires
+put-end-requires c κs = search needs
+
+put-byte-requires : tie.Need-put-byte-requires
+put-byte-requires c κs = search needs
+
+cast-put-field : tie.Need-cast-put-field
+cast-put-field c = search needs
+
+put-field-requires : tie.Need-put-field-requires
+put-field-requires c κs = search needs
+
+same-length : tie.Need-same-length
+same-length c = search needs
+
+returns : tie.Need-returns
+returns c =
+    let steps = few-then {most = 22} (omega arith) (few-byte (c .before .before .before .before .before .before .before .put-byte .ensures)) (c .before .before .put-field .ensures) in
+    few-then (omega arith) (c .before .before .before .before .before .before .before .before .before .before .before .put-end .ensures) steps
+
+pub put-ended-spec : {M : Type 1} → statement M
+put-ended-spec =
+    tie.close
+    (tie.spec
+    put-end-requires
+    put-byte-requires
+    cast-put-field
+    put-field-requires
+    same-length
+    returns)

@@ -1,0 +1,40 @@
+-- `put_refusal` meets its contract: the word `refused`, the number, and the place.
+use Rattle.report.proofs.Puts.{put-then, refusal-parts}
+use borrow.Author.Needs.{needs}
+use Rattle.report.proofs.writing.put_refusal.Statement.{statement}
+use Rattle.report.proofs.writing.put_refusal.Tie as tie
+
+slice-aggregate-put-text : tie.Need-slice-aggregate-put-text
+slice-aggregate-put-text c = search needs
+
+put-text-requires : tie.Need-put-text-requires
+put-text-requires c κs = search needs
+
+cast-put-field : tie.Need-cast-put-field
+cast-put-field c = search needs
+
+put-field-requires : tie.Need-put-field-requires
+put-field-requires c κs = search needs
+
+put-field-requires-2 : tie.Need-put-field-requires-2
+put-field-requires-2 c κs = search needs
+
+same-length : tie.Need-same-length
+same-length c = search needs
+
+returns : tie.Need-returns
+returns c =
+    let rest = put-then (c .before .before .before .before .before .before .put-field .ensures .put) (c .before .before .put-field2 .ensures .put) in
+    rw (refusal-parts (c .before .before .before .before .before .before .before .before .before .before .before .before .before .before .before .args .refusal)) (put-then (c .before .before .before .before .before .before .before .before .before .before .before .put-text .ensures) rest)
+
+pub put-refusal-spec : {M : Type 1} → statement M
+put-refusal-spec =
+    tie.close
+    (tie.spec
+    slice-aggregate-put-text
+    put-text-requires
+    cast-put-field
+    put-field-requires
+    put-field-requires-2
+    same-length
+    returns)

@@ -1,0 +1,164 @@
+-- The accepted program that a list holds, line by line: the command there, its indices, its partner, and the pairs open.
+use mathlib.Core.Path.{_≡_, refl, sym, ap, _∙_}
+use mathlib.Core.Option.{Option, none, some, Option·none-ne-some}
+use mathlib.Core.List.{List, [], _∷_, map}
+use Prim.Native.Nat.{ℕ, zero, suc, _+_, _*_, _≤_, _<_}
+use native.Mathlib.Nat.{add-zero, add-suc, suc-add}
+use native.Mathlib.Numerals.{one-add}
+use native.Mathlib.Omega.{arith}
+use lib.ListN.{length, getD, getElem?, take, length-map}
+use Rattle.theory.specs.Limits.{most-lines, most-index, most-open}
+use Rattle.theory.specs.Basics.{at}
+use Rattle.theory.specs.ProgramText.{Kind, loop, while, clear, increment, copy, Command, plain, opens, closes, indices, above, numbers, list-of, lines, block-of}
+use Rattle.theory.specs.Source.{Opening, closed, open-after, open-at, deeper, loops, depth}
+use Rattle.theory.specs.TurnedDown.{Open, open-next}
+use Rattle.theory.specs.Claims.{Accepted, EachOf}
+use Rattle.theory.proofs.Nesting.{short, sound, low, LowIndices, LinesSound, lines-sound, few-open, one-open, well-nested}
+use Rattle.theory.proofs.Partners.{Known, known, depth-end}
+use Rattle.theory.proofs.Lists.{listed-list, present-some}
+use Rattle.source.specs.Lines.{program, Holds, decoded, command-at}
+
+-- The list of an accepted program holds it
+pub program-list : (p : List Command) → program (list-of p) ≡ p
+unfolding program
+program-list p = rw (listed-list p, present-some p)
+
+pub holds-list : (p : List Command) → Accepted p → Holds (list-of p)
+holds-list p h = record { whole = rw (program-list p); accepted = rw (program-list p) h }
+
+-- Three numbers a line
+
+-- A command's numbers, of which the first is 1 to 7, give the command again
+record Numbered (c : Command) : Type 0 where
+  k : ℕ
+  i : ℕ
+  j : ℕ
+  are : numbers c ≡ k ∷ i ∷ j ∷ []
+  means : decoded k i j ≡ c
+  low : 1 ≤ k
+  high : k ≤ 7
+
+numbered : (c : Command) → Numbered c
+numbered (plain (clear i)) = record { k = 1; i = i; j = 0; are = refl; means = refl; low = omega arith; high = omega arith }
+numbered (plain (increment i)) = record { k = 2; i = i; j = 0; are = refl; means = refl; low = omega arith; high = omega arith }
+numbered (plain (copy i j)) = record { k = 3; i = i; j = j; are = refl; means = refl; low = omega arith; high = omega arith }
+numbered (opens loop i) = record { k = 4; i = i; j = 0; are = refl; means = refl; low = omega arith; high = omega arith }
+numbered (closes loop i) = record { k = 5; i = i; j = 0; are = refl; means = refl; low = omega arith; high = omega arith }
+numbered (opens while i) = record { k = 6; i = i; j = 0; are = refl; means = refl; low = omega arith; high = omega arith }
+numbered (closes while i) = record { k = 7; i = i; j = 0; are = refl; means = refl; low = omega arith; high = omega arith }
+
+three-on : (a b d : ℕ) (l : List ℕ) (n n′ : ℕ) → n′ ≡ suc (suc (suc n)) → getD (a ∷ b ∷ d ∷ l) n′ 0 ≡ getD l n 0
+three-on a b d l n n′ e = rw e
+
+line-on : (a b d : ℕ) (l : List ℕ) (m : ℕ) → command-at (a ∷ b ∷ d ∷ l) (suc m) ≡ command-at l m
+unfolding command-at
+line-on a b d l m =
+    rw (
+      three-on a b d l (3 * m) (3 * suc m) (omega arith),
+      three-on a b d l (3 * m + 1) (3 * suc m + 1) (omega arith),
+      three-on a b d l (3 * m + 2) (3 * suc m + 2) (omega arith),
+    )
+
+fetched : (p : List Command) (m : ℕ) → m < length p → getElem? p m ≡ some (command-at (list-of p) m)
+unfolding list-of command-at
+fetched [] m h = absurd (omega arith)
+fetched (c ∷ p) zero h = let x : Numbered c = numbered c in rw (x .are) (ap some (sym (x .means)))
+fetched (c ∷ p) (suc m) h =
+    let x : Numbered c = numbered c in
+    rw (x .are) (fetched p m (omega arith) ∙ ap some (sym (line-on (x .k) (x .i) (x .j) (list-of p) m)))
+
+kind-range : (p : List Command) (m : ℕ) → m < length p → (1 ≤ getD (list-of p) (3 * m) 0) × (getD (list-of p) (3 * m) 0 ≤ 7)
+unfolding list-of
+kind-range [] m h = absurd (omega arith)
+kind-range (c ∷ p) zero h = let x : Numbered c = numbered c in rw (x .are) (x .low, x .high)
+kind-range (c ∷ p) (suc m) h =
+    let x : Numbered c = numbered c in
+    rw (x .are, three-on (x .k) (x .i) (x .j) (list-of p) (3 * m) (3 * suc m) (omega arith)) (kind-range p m (omega arith))
+
+list-length : (p : List Command) → length (list-of p) ≡ 3 * length p
+unfolding list-of
+list-length [] = refl
+list-length (c ∷ p) = rw (numbered c .are) (omega (arith, list-length p))
+
+-- The pairs open after one line more
+open-one : (p : List Command) (m n : ℕ) (os : List Opening) (c : Command) → getElem? p m ≡ some c
+    → open-after (take (suc m) p) n os ≡ open-after (c ∷ []) (n + m) (open-after (take m p) n os)
+open-one [] m n os c e = absurd (Option·none-ne-some c e)
+open-one (x ∷ p) zero n os c e = let same : x ≡ c = cc in rw (add-zero, same)
+open-one (plain x ∷ p) (suc m) n os c e = rw (add-suc, ← suc-add) (open-one p m (suc n) os c e)
+open-one (opens k i ∷ p) (suc m) n os c e = rw (add-suc, ← suc-add) (open-one p m (suc n) (record { line = n; kind = k } ∷ os) c e)
+open-one (closes k i ∷ p) (suc m) n os c e = rw (add-suc, ← suc-add) (open-one p m (suc n) (closed os) c e)
+
+-- Rule 6, of a line: the pairs with their indices, as rule 7 goes by them, are those open there
+shown : Open → Opening
+shown o = record { line = o .line; kind = o .kind }
+
+room : (p : List Command) (n : ℕ) (os : List Open) → LinesSound n os p → (m : ℕ) (k : Kind) (i : ℕ) → getElem? p m ≡ some (opens k i)
+    → length (open-after (take m p) n (map shown os)) < most-open
+unfolding shown
+room [] n os h m k i e = absurd (Option·none-ne-some (opens k i) e)
+room (x ∷ p) n os h zero k i e =
+    let same : x ≡ opens k i = cc in
+    rw (length-map os shown) (few-open n os k i (rw same at (h .0)))
+room (plain x ∷ p) n os h (suc m) k i e = room p (suc n) os (h .1) m k i e
+room (opens l j ∷ p) n os h (suc m) k i e = room p (suc n) (record { line = n; kind = l; index = j } ∷ os) (h .1) m k i e
+room (closes l j ∷ p) n [] h (suc m) k i e = absurd (one-open n l j (h .0))
+room (closes l j ∷ p) n (o ∷ os) h (suc m) k i e = room p (suc n) os (h .1) m k i e
+
+loops-within : (os : List Opening) → loops os ≤ length os
+loops-within [] = omega arith
+loops-within (o ∷ os) = go (o .kind) (loops-within os)
+  where
+    go : (k : Kind) → loops os ≤ length os → deeper k (loops os) ≤ suc (length os)
+    go loop h = omega arith
+    go while h = omega arith
+
+each-of : {A : Type 0} (P : A → Type 0) (l : List A) (m : ℕ) (x : A) → EachOf P l → getElem? l m ≡ some x → P x
+each-of P [] m x h e = absurd (Option·none-ne-some x e)
+each-of P (y ∷ l) zero x h e = let same : y ≡ x = cc in rw (← same) (h .0)
+each-of P (y ∷ l) (suc m) x h e = each-of P l m x (h .1) e
+
+module _ (l : List ℕ) (h : Holds l) where
+  pub few-lines : length (program l) ≤ most-lines
+  few-lines = short (program l) (h .accepted)
+
+  pub numbers-length : length l ≡ 3 * length (program l)
+  numbers-length = ap length (sym (h .whole)) ∙ list-length (program l)
+
+  -- No loop is around the line after the last
+  pub depth-last : depth (program l) (suc (length (program l))) ≡ 0
+  depth-last = rw (well-nested (program l) (h .accepted)) at (depth-end (block-of (program l)))
+
+  -- Rule 6, of an opening line
+  pub open-room : (n : ℕ) (k : Kind) (i : ℕ) → at (program l) n ≡ some (opens k i) → length (open-at (program l) n) < most-open
+  unfolding open-at
+  open-room zero k i e = absurd (Option·none-ne-some (opens k i) e)
+  open-room (suc m) k i e = room (program l) 1 [] (lines-sound (program l) 1 [] (sound (program l) (h .accepted))) m k i e
+
+  pub depth-room : (n : ℕ) (k : Kind) (i : ℕ) → at (program l) n ≡ some (opens k i) → depth (program l) n < most-open
+  unfolding depth
+  depth-room n k i e = omega (arith, open-room n k i e, loops-within (open-at (program l) n))
+
+-- Line m, counted from 0
+module _ (l : List ℕ) (h : Holds l) (m : ℕ) (inside : m < length (program l)) where
+  pub here : at (program l) (suc m) ≡ some (command-at l m)
+  here = fetched (program l) m inside ∙ ap (λ x. some (command-at x m)) (h .whole)
+
+  pub kind-within : (1 ≤ getD l (3 * m) 0) × (getD l (3 * m) 0 ≤ 7)
+  kind-within = rw (h .whole) at (kind-range (program l) m inside)
+
+  -- A line that is not plain
+  pub past-plain : (getD l (3 * m) 0 ≡ 1 → ⊥) → (getD l (3 * m) 0 ≡ 2 → ⊥) → (getD l (3 * m) 0 ≡ 3 → ⊥) → 3 < getD l (3 * m) 0
+  past-plain a b c = omega (arith, kind-within .0)
+
+  pub partner : Known (program l) (suc m) (command-at l m)
+  partner =
+      let nested : lines (block-of (program l)) ≡ program l = well-nested (program l) (h .accepted) in
+      rw nested at (known (block-of (program l)) (suc m) (command-at l m) (rw nested here))
+
+  pub low-indices : above (indices (command-at l m)) ≤ suc most-index
+  low-indices = each-of LowIndices (program l) m (command-at l m) (low (program l) (h .accepted)) here
+
+  pub open-more : open-at (program l) (suc (suc m)) ≡ open-after (command-at l m ∷ []) (suc m) (open-at (program l) (suc m))
+  unfolding open-at
+  open-more = rw one-add at (open-one (program l) m 1 [] (command-at l m) here)

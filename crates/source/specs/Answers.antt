@@ -1,0 +1,60 @@
+-- What a run of a source hands back (document 01, "Machines of the set" and rule 9), as values of the crate's types.
+use mathlib.Core.Path.{_≡_}
+use mathlib.Core.List.{List}
+use Prim.Native.Nat.{ℕ, _+_}
+use lib.ListN.{getD, replicate}
+use Rattle.theory.specs.Basics.{cells}
+use Rattle.theory.specs.Limits.{state-values, state-passes}
+use Rattle.theory.specs.ProgramText.{Command}
+use Rattle.theory.specs.Runs.{Outcome}
+use Rattle.theory.specs.Source as S
+use Rattle.theory.specs.Machines.{SourceState, run-source}
+use Rattle.theory.specs.TurnedDown.{Answer, done, refused, answer, rule-9}
+use Rattle.source.specs.declared.State.{State}
+use Rattle.source.specs.declared.Run.{Run}
+use Rattle.source.specs.declared.Ended.{Ended}
+use Rattle.source.specs.declared.Ended.the-variants as E
+
+-- A line, values and passes left, as the definitions have them: past the end of a list stands 0
+abbrev pub stands : ℕ → List ℕ → List ℕ → S.State
+stands line values passes = record { line = line; values = λ i. getD values i 0; passes = λ d. getD passes d 0 }
+
+abbrev pub source-state : State → SourceState
+source-state s = record { capacity = s .capacity; steps = s .steps; state = stands (s .line) (s .values) (s .passes) }
+
+-- "A fresh state has line or place 1, no steps and passes-left all 0"
+abbrev pub fresh-state : ℕ → List ℕ → State
+fresh-state capacity values = record { capacity = capacity; line = 1; steps = 0; values = values; passes = replicate 16 0 }
+
+-- A program run from a state: rule 9, and then the run
+unfoldable pub run-from : State → ℕ → List Command → Answer (Outcome S.State)
+run-from s budget p = answer (rule-9 p (source-state s)) (run-source p (source-state s) budget)
+
+-- How it ended
+unfoldable pub ended-by : Answer (Outcome S.State) → Ended
+ended-by (done o) = E.Ran (o .end) (o .steps)
+ended-by (refused x) = E.Refused x
+
+-- The state afterwards, as the set keeps it; a refusal hands back the state as it was
+unfoldable pub state-by : State → Answer (Outcome S.State) → State
+state-by s (done o) =
+    record {
+      capacity = s .capacity;
+      line = o .state .line;
+      steps = s .steps + o .steps;
+      values = cells state-values (o .state .values);
+      passes = cells state-passes (o .state .passes);
+    }
+state-by s (refused x) = s
+
+-- The same, as the definitions have it
+unfoldable pub moved-by : SourceState → Answer (Outcome S.State) → SourceState
+moved-by s (done o) = record { capacity = s .capacity; steps = s .steps + o .steps; state = o .state }
+moved-by s (refused x) = s
+
+-- A run from s that hands back what the definitions give. `state` fixes every number of it, and `stands` says that it is the definitions' state
+-- and no part of that: from there a later call goes on
+pub record HandsBack (s : State) (a : Answer (Outcome S.State)) (r : Run) : Type 0 where
+  pub ended : r .ended ≡ ended-by a
+  pub state : r .state ≡ state-by s a
+  pub stands : source-state (r .state) ≡ moved-by (source-state s) a

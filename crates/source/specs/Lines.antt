@@ -1,0 +1,139 @@
+-- What the private functions of this crate say of the lines of a list, of the tables filled for a run, and of a step.
+use mathlib.Core.Path.{_≡_}
+use mathlib.Core.Bool.{Bool, true, false, cond}
+use mathlib.Core.Option.{Option, none, some}
+use mathlib.Core.List.{List}
+use Prim.Native.Nat.{ℕ, zero, suc, pred, _+_, _*_, _≤_, _<_}
+use lib.ListN.{length, getD}
+use lib.Dec.{eqb}
+use Rattle.theory.specs.Limits.{state-values, state-passes}
+use Rattle.theory.specs.Basics.{present}
+use Rattle.theory.specs.ProgramText.{Command, plain, clear, increment, copy, opens, closes, loop, while, list-of, listed}
+use Rattle.theory.specs.Runs.{Machine, Outcome, run, within}
+use Rattle.theory.specs.Source as S
+use Rattle.theory.specs.Claims.{Accepted}
+use Rattle.source.specs.Answers.{stands}
+use Rattle.source.specs.declared.Next.{Next}
+use Rattle.source.specs.declared.Next.the-variants as N
+use Rattle.source.specs.declared.Stop.{Stop}
+
+-- The program that a list holds, three numbers a command
+unfoldable pub program : List ℕ → List Command
+program l = present (listed l)
+
+-- The list holds an accepted program, and nothing else
+pub record Holds (l : List ℕ) : Type 0 where
+  pub whole : list-of (program l) ≡ l
+  pub accepted : Accepted (program l)
+
+-- The command of three numbers, of which the first is a kind, 1 to 7
+abbrev pub decoded : ℕ → ℕ → ℕ → Command
+decoded k i j =
+    cond (eqb k 1) (plain (clear i))
+    (cond (eqb k 2) (plain (increment i))
+    (cond (eqb k 3) (plain (copy i j))
+    (cond (eqb k 4) (opens loop i)
+    (cond (eqb k 5) (closes loop i)
+    (cond (eqb k 6) (opens while i)
+    (closes while i))))))
+
+-- The command at a line, the lines counted from 0
+unfoldable pub command-at : List ℕ → ℕ → Command
+command-at l m = decoded (getD l (3 * m) 0) (getD l (3 * m + 1) 0) (getD l (3 * m + 2) 0)
+
+-- Entries of the passes-left
+
+-- At a line around which there are d loops: the entry of the loop that the line opens is d, of the one that it closes d - 1
+abbrev pub entry-of : Command → ℕ → ℕ
+entry-of (plain c) d = d
+entry-of (opens k i) d = d
+entry-of (closes loop i) d = pred d
+entry-of (closes while i) d = d
+
+unfoldable pub entry-at : List ℕ → ℕ → ℕ
+entry-at l m = entry-of (command-at l m) (S.depth (program l) (suc m))
+
+-- Targets: the line to which a step jumps where it does not go to the next one
+
+pub record Jump (p : List Command) (goal t : ℕ) : Type 0 where
+  pub to : t ≡ goal
+  pub low : 0 < t
+  pub high : t ≤ suc (length p)
+
+unfoldable pub Reaches : List Command → ℕ → Command → ℕ → Type 0
+Reaches p n (plain c) t = Unit {0}
+Reaches p n (opens k i) t = Jump p (suc (S.closing p n)) t
+Reaches p n (closes loop i) t = Jump p (suc (S.opening p n)) t
+Reaches p n (closes while i) t = Jump p (S.opening p n) t
+
+-- The tables are filled for every line
+abbrev pub Entered : List ℕ → List ℕ → Type 0
+Entered l entries = (m : ℕ) → m < length (program l) → getD entries m 0 ≡ entry-at l m
+
+abbrev pub Linked : List ℕ → List ℕ → Type 0
+Linked l targets = (m : ℕ) → m < length (program l) → Reaches (program l) (suc m) (command-at l m) (getD targets m 0)
+
+pub record Filled (l targets entries : List ℕ) : Type 0 where
+  pub holds : Holds l
+  pub jumps : Linked l targets
+  pub enters : Entered l entries
+  pub targets-room : length (program l) ≤ length targets
+  pub entries-room : length (program l) ≤ length entries
+
+-- A list that holds a program of so many lines, with tables that have room for them
+pub record Fits (l : List ℕ) (lines : ℕ) (table : List ℕ) : Type 0 where
+  pub holds : Holds l
+  pub lines-are : lines ≡ length (program l)
+  pub room : lines ≤ length table
+
+-- A step
+
+-- The tables are filled, the line is one of the program, and the lists are those of a state
+pub record Ready (l targets entries : List ℕ) (line : ℕ) (vs ps : List ℕ) : Type 0 where
+  pub filled : Filled l targets entries
+  pub low : 0 < line
+  pub high : line ≤ length (program l)
+  pub values-are : length vs ≡ state-values
+  pub passes-are : length ps ≡ state-passes
+
+-- What a step hands back, with the lists as they are then
+abbrev pub next-of : Next → List ℕ → List ℕ → Option S.State
+next-of (N.At n) vs ps = some (stands n vs ps)
+next-of N.Full vs ps = none
+
+-- The line is one of the program, or the line after its last
+abbrev pub Within : List Command → Next → Type 0
+Within p (N.At n) = (0 < n) × (n ≤ suc (length p))
+Within p N.Full = Unit {0}
+
+-- A full step leaves the lists as they were
+abbrev pub Kept : Next → List ℕ → List ℕ → List ℕ → List ℕ → Type 0
+Kept (N.At n) vs ps vs′ ps′ = Unit {0}
+Kept N.Full vs ps vs′ ps′ = (vs′ ≡ vs) × (ps′ ≡ ps)
+
+pub record Stepped (p : List Command) (capacity line : ℕ) (vs ps : List ℕ) (r : Next) (vs′ ps′ : List ℕ) : Type 0 where
+  pub next : S.step (within capacity) p (stands line vs ps) ≡ next-of r vs′ ps′
+  pub inside : Within p r
+  pub kept : Kept r vs ps vs′ ps′
+
+-- A run
+
+-- The same, of a program of so many lines; the line may be the one after the last
+pub record Startable (l targets entries : List ℕ) (lines line : ℕ) (vs ps : List ℕ) : Type 0 where
+  pub filled : Filled l targets entries
+  pub lines-are : lines ≡ length (program l)
+  pub low : 0 < line
+  pub high : line ≤ suc (length (program l))
+  pub values-are : length vs ≡ state-values
+  pub passes-are : length ps ≡ state-passes
+
+abbrev pub machine-of : List ℕ → ℕ → Machine S.State
+machine-of l capacity = S.machine (within capacity) (program l)
+
+-- A run of so many steps at most, from a count of 0
+unfoldable pub run-at : List ℕ → ℕ → ℕ → List ℕ → List ℕ → ℕ → Outcome S.State
+run-at l capacity line vs ps allowed = run (machine-of l capacity) allowed 0 (stands line vs ps)
+
+-- How it ended, the steps taken, and the state
+abbrev pub outcome-of : Stop → List ℕ → List ℕ → Outcome S.State
+outcome-of r vs ps = record { end = r .end; steps = r .taken; state = stands (r .line) vs ps }

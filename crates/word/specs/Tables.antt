@@ -1,0 +1,51 @@
+-- What the functions inside this crate count of a table and write of it.
+use mathlib.Core.Bool.{Bool, cond, not, _||_}
+use mathlib.Core.List.{List, [], _∷_}
+use Prim.Native.Nat.{ℕ, suc, _+_, _≤_, min}
+use lib.ListN.{length, take}
+use lib.Seq.{sets}
+use lib.Dec.{eqb, ltb}
+use Rattle.theory.specs.Limits
+use Rattle.theory.specs.Word.{Entry, spell-entries, bytes-of}
+use Rattle.theory.specs.Machines.{is-limited}
+use Rattle.theory.specs.TurnedDown.{entry-size, total}
+use Rattle.word.specs.declared.answers.Read.{Read}
+use Rattle.word.specs.declared.answers.Read.the-variants.{Done, Refused}
+use Rattle.word.specs.declared.writing.Tally.{Tally}
+use Rattle.word.specs.Scan.{leading}
+
+-- An entry that rule 13 turns down, and one that it lets pass
+abbrev pub is-bad : Entry → Bool
+is-bad e = not (is-limited 5 (e .kind)) || eqb (e .operand) 0
+
+abbrev pub is-good : Entry → Bool
+is-good e = not (is-bad e)
+
+-- Of a table: its symbols, or one more than a word may have; how many entries are good before the first that is not; how many there are
+unfoldable pub tally-of : List Entry → Tally
+tally-of t = record { size = min (total t) (suc Limits.most-symbols); good = leading is-good t; count = length t }
+
+-- The tally with one entry more
+unfoldable pub noted : Tally → Entry → Tally
+noted s e = record {
+  size = min (s .size + e .operand + e .kind) (suc Limits.most-symbols);
+  good = cond (ltb (s .good) (s .count)) (s .good) (cond (is-good e) (s .count + 1) (s .good));
+  count = s .count + 1;
+}
+
+-- Rules 11, 13 and 14, by the tally
+unfoldable pub judged : Tally → Read
+judged s =
+    cond (eqb (s .count) 0) (Refused (record { number = 11; place = 0 }))
+    (cond (ltb Limits.most-symbols (s .size)) (Refused (record { number = 11; place = 0 }))
+    (cond (ltb (s .good) (s .count)) (Refused (record { number = 13; place = s .good }))
+    (cond (ltb Limits.most-instructions (s .count)) (Refused (record { number = 14; place = Limits.most-instructions }))
+    (Done (s .count)))))
+
+-- A word with room for the first entries of a table, and with those entries spelled from its start on
+pub record Spellable (t : List Entry) (count : ℕ) (word : List ℕ) : Type 0 where
+  pub within : count ≤ length t
+  pub room : total t ≤ length word
+
+unfoldable pub spelt : List Entry → ℕ → List ℕ → List ℕ
+spelt t count word = sets word 0 (bytes-of (spell-entries (take count t)))

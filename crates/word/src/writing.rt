@@ -1,0 +1,190 @@
+// Checking a table of numbers and writing it as a word: rules 11, 13 and 14 as for tables, with entries as places, and then 19.
+ghost use mathlib.Core.Path.{_≡_};
+ghost use mathlib.Core.List.{_++_};
+ghost use Prim.Native.Nat.{_+_, _≤_, _<_, min, max};
+ghost use lib.ListN.{length, getD, replicate};
+ghost use lib.Seq.{sets};
+ghost use Rattle.theory.specs.TurnedDown.{read-table};
+ghost use Rattle.word.specs.Answers.{zipped, read-answer, WritesInto};
+ghost use Rattle.word.specs.Tables.{is-good, noted, tally-of, judged, Spellable, spelt};
+use crate::answers::Instruction;
+use crate::answers::Read;
+use crate::answers::Written;
+use crate::answers::refused;
+use theory::Refusal;
+
+// What is counted of a table's first entries: their symbols, or one more than a word may have; how many are good before the first bad one; how many
+// there are.
+struct Tally {
+    size: usize,
+    good: usize,
+    count: usize,
+}
+
+// A sum of symbols, as a tally has it: it cannot wrap.
+fn capped(sum: usize) -> usize
+    ensures { λ r. ⌜ r ≡ min sum 600001 ⌝ }
+{
+    if sum <= Instruction::SYMBOLS {
+        return sum;
+    }
+    Instruction::SYMBOLS + 1
+}
+
+// An entry that rule 13 lets pass.
+fn is_instruction(kind: u8, operand: u32) -> bool
+    ensures { λ r. ⌜ r ≡ is-good (record { kind = kind; operand = operand }) ⌝ }
+{
+    if kind == 0 {
+        return false;
+    }
+    if Instruction::KINDS < kind {
+        return false;
+    }
+    0 < operand
+}
+
+// The tally with one entry more.
+fn with_entry(t: Tally, kind: u8, operand: u32) -> Tally
+    requires { ⌜ (t .size ≤ 600001) × (t .count < 18446744073709551615) ⌝ }
+    ensures { λ r. ⌜ r ≡ noted t (record { kind = kind; operand = operand }) ⌝ }
+{
+    let size = capped(t.size + operand as usize + kind as usize);
+    let count = t.count + 1;
+    let good = t.good;
+    if good < t.count {
+        return Tally { size, good, count };
+    }
+    if is_instruction(kind, operand) {
+        return Tally {
+            size,
+            good: count,
+            count,
+        };
+    }
+    Tally { size, good, count }
+}
+
+// The answer for a table: rules 11, 13 and 14.
+fn judge(t: Tally) -> Read
+    ensures { λ r. ⌜ r ≡ judged t ⌝ }
+{
+    let count = t.count;
+    if count == 0 {
+        return refused(11, 0);
+    }
+    if Instruction::SYMBOLS < t.size {
+        return refused(11, 0);
+    }
+    let good = t.good;
+    if good < count {
+        return refused(13, good);
+    }
+    if Instruction::INSTRUCTIONS < count {
+        return refused(14, Instruction::INSTRUCTIONS);
+    }
+    Read::Done(count)
+}
+
+// A number of a list, or 0 where it is missing.
+fn kind_at(kinds: &[u8], i: usize) -> u8
+    ensures { λ r. ⌜ r ≡ getD (now (kinds .entry)) i 0 ⌝ }
+{
+    if i < kinds.len() { kinds[i] } else { 0 }
+}
+
+fn operand_at(operands: &[u32], i: usize) -> u32
+    ensures { λ r. ⌜ r ≡ getD (now (operands .entry)) i 0 ⌝ }
+{
+    if i < operands.len() { operands[i] } else { 0 }
+}
+
+fn longer(a: usize, b: usize) -> usize
+    ensures { λ r. ⌜ r ≡ max a b ⌝ }
+{
+    if a < b { b } else { a }
+}
+
+// The tally of a table of numbers.
+fn counted(kinds: &[u8], operands: &[u32]) -> Tally
+    ensures { λ r. ⌜ r ≡ tally-of (zipped (now (kinds .entry)) (now (operands .entry))) ⌝ }
+{
+    let count = longer(kinds.len(), operands.len());
+    let mut t = Tally {
+        size: 0,
+        good: 0,
+        count: 0,
+    };
+    let mut i: usize = 0;
+    while i < count {
+        t = with_entry(t, kind_at(kinds, i), operand_at(operands, i));
+        i += 1;
+    }
+    t
+}
+
+// A table of numbers: rules 11, 13 and 14. A number that is missing counts as 0.
+pub fn check(kinds: &[u8], operands: &[u32]) -> Read
+    ensures { λ r. ⌜ r ≡ read-answer (read-table (zipped (now (kinds .entry)) (now (operands .entry)))) ⌝ }
+{
+    judge(counted(kinds, operands))
+}
+
+// Writes `n` times `byte` from `at` on.
+fn put_run(word: &mut [u8], at: usize, n: usize, byte: u8)
+    requires { ⌜ at + n ≤ length (now word) ⌝ }
+    ensures { λ _. ⌜ now (word .exit) ≡ sets (now (word .entry)) at (replicate n byte) ⌝ }
+{
+    let mut i: usize = 0;
+    while i < n {
+        word[at + i] = byte;
+        i += 1;
+    }
+}
+
+// Writes an entry at `at`, and says where it ends.
+fn put_entry(word: &mut [u8], at: usize, kind: u8, operand: u32) -> usize
+    requires { ⌜ at + (operand + kind) ≤ length (now word) ⌝ }
+    ensures { λ r. ⌜ (r ≡ at + (operand + kind)) × (now (word .exit) ≡ sets (now (word .entry)) at (replicate operand 49 ++ replicate kind 35)) ⌝ }
+{
+    let ones = operand as usize;
+    let hashes = kind as usize;
+    let middle = at + ones;
+    put_run(&mut *word, at, ones, 49);
+    put_run(&mut *word, middle, hashes, 35);
+    middle + hashes
+}
+
+// Writes the first `count` entries of a table into a word that has room for them.
+fn spell(kinds: &[u8], operands: &[u32], count: usize, word: &mut [u8])
+    requires { ⌜ Spellable (zipped (now kinds) (now operands)) count (now word) ⌝ }
+    ensures { λ _. ⌜ now (word .exit) ≡ spelt (zipped (now (kinds .entry)) (now (operands .entry))) count (now (word .entry)) ⌝ }
+{
+    let mut at: usize = 0;
+    let mut i: usize = 0;
+    while i < count {
+        at = put_entry(&mut *word, at, kind_at(kinds, i), operand_at(operands, i));
+        i += 1;
+    }
+}
+
+// Writes a table of numbers as a word: rules 11, 13 and 14 as for tables, then 19.
+pub fn write(kinds: &[u8], operands: &[u32], word: &mut [u8]) -> Written
+    ensures { λ r. ⌜ WritesInto (zipped (now (kinds .entry)) (now (operands .entry))) (now (word .entry)) r (now (word .exit)) ⌝ }
+{
+    let t = counted(kinds, operands);
+    let size = t.size;
+    match judge(t) {
+        Read::Done(count) => {
+            if word.len() < size {
+                return Written::Refused(Refusal {
+                    number: 19,
+                    place: 0,
+                });
+            }
+            spell(kinds, operands, count, word);
+            Written::Done(size)
+        }
+        Read::Refused(r) => Written::Refused(r),
+    }
+}
