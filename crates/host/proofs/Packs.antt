@@ -6,19 +6,24 @@ use Rattle.theory.specs.ProgramText.{Command}
 use Rattle.theory.specs.Runs.{Outcome}
 use Rattle.theory.specs.Source as S
 use Rattle.theory.specs.Word.{Entry}
-use Rattle.theory.specs.TurnedDown.{Answer, done, refused}
-use Rattle.program.specs.Answers.{checked, written}
+use Rattle.theory.specs.Text.{Bytes}
+use Rattle.theory.specs.Machines.{Memory, run-word}
+use Rattle.theory.specs.TurnedDown.{Answer, done, refused, mapped, read-word-for, instructions}
+use Rattle.program.specs.Answers as Programs
 use Rattle.word.specs.Answers.{read-answer, written-answer}
 use Rattle.source.specs.Answers.{ended-by}
+use Rattle.machine.specs.Calls.{position, called, checked, word-called}
+use Rattle.machine.specs.declared.answers.Position.{Position}
 use Rattle.host.specs.Packed.{packed, commands, count, ending}
-use Rattle.host.specs.Answered.{program-read, program-written, word-read, word-written, source-ended}
+use Rattle.host.specs.Answered.{program-read, program-written, word-read, word-written, source-ended, word-ended}
+use Rattle.host.specs.Entries.{run-lent}
 
-pub packs-program-read : (a : Answer (List Command)) → program-read (checked a) ≡ packed commands a
+pub packs-program-read : (a : Answer (List Command)) → program-read (Programs.checked a) ≡ packed commands a
 unfolding packed
 packs-program-read (done p) = refl
 packs-program-read (refused r) = refl
 
-pub packs-program-written : (a : Answer (List ℕ)) → program-written (written a) ≡ packed count a
+pub packs-program-written : (a : Answer (List ℕ)) → program-written (Programs.written a) ≡ packed count a
 unfolding packed
 packs-program-written (done l) = refl
 packs-program-written (refused r) = refl
@@ -37,3 +42,15 @@ pub packs-source : (a : Answer (Outcome S.State)) → source-ended (ended-by a) 
 unfolding packed ended-by
 packs-source (done o) = refl
 packs-source (refused r) = refl
+
+-- What a run of a word hands back, after rule 10 and what was read
+packs-called : (m : Memory) (at : Position) (budget : ℕ) (a : Answer (List Entry))
+    → word-ended (called m at budget a .run .ended) ≡ packed ending (mapped (λ t. run-word (instructions t) m (position at) budget) a)
+unfolding packed
+packs-called m at budget (done t) = refl
+packs-called m at budget (refused r) = refl
+
+pub packs-word : (m : Memory) (at : Position) (budget : ℕ) (word : Bytes)
+    → word-ended (word-called m at budget word .run .ended) ≡ packed ending (run-lent m at budget word)
+unfolding word-called run-lent
+packs-word m at budget word = packs-called m at budget (checked m (read-word-for (m .registers) word))

@@ -11,8 +11,8 @@ use Rattle.word.specs.declared.answers.Written as Word
 use Rattle.word.specs.declared.answers.Written.the-variants as WordWritten
 use Rattle.source.specs.declared.Ended as Source
 use Rattle.source.specs.declared.Ended.the-variants as SourceEnded
-use Rattle.machine.specs.declared.Ended as Machine
-use Rattle.machine.specs.declared.Ended.the-variants as MachineEnded
+use Rattle.machine.specs.declared.answers.Ended as Machine
+use Rattle.machine.specs.declared.answers.Ended.the-variants as MachineEnded
 use Rattle.host.specs.Packed.{pack, end-number}
 
 abbrev pub refusal : Refusal → ℕ

@@ -3,9 +3,11 @@
 mod packing;
 mod states;
 
+use machine::Machine;
+use machine::Position;
 ghost use mathlib.Core.Path.{_≡_};
 ghost use Rattle.word.specs.Answers.{zipped};
-ghost use Rattle.host.specs.Entries.{ReadsWord, WritesWord};
+ghost use Rattle.host.specs.Entries.{RunsWord, ReadsWord, WritesWord, lent, stands-at};
 
 // The version of these entries.
 #[no_mangle]
@@ -29,4 +31,36 @@ pub extern "C" fn mudzkvopi_write_word(kinds: &[u8], operands: &[u32], word: &mu
     ensures { λ r. ⌜ WritesWord (zipped (now (kinds .entry)) (now (operands .entry))) (now (word .entry)) r (now (word .exit)) ⌝ }
 {
     packing::word_written(word::write(kinds, operands, &mut *word))
+}
+
+// A word run on a lent machine, from a lent place and count of steps: rule 10, then 11 to 15.
+#[no_mangle]
+pub extern "C" fn mudzkvopi_run_word(
+    registers: u32,
+    capacity: u32,
+    store: &mut [u8],
+    lengths: &mut [u16],
+    place: &mut i32,
+    steps: &mut u32,
+    word: &[u8],
+    budget: u32,
+) -> u64
+    ensures { λ r. ⌜ RunsWord (lent registers capacity (now (store .entry)) (now (lengths .entry)))
+        (stands-at (now (place .entry)) (now (steps .entry))) (now (word .entry)) budget
+        r (now (store .exit)) (now (lengths .exit)) (stands-at (now (place .exit)) (now (steps .exit))) ⌝ }
+{
+    let m = Machine {
+        registers: registers as usize,
+        capacity: capacity as usize,
+    };
+    let at = Position {
+        place: *place,
+        steps: *steps,
+    };
+    let run = machine::run(m, &mut *store, &mut *lengths, at, word, budget);
+    let there = run.position.place;
+    let ended = run.ended;
+    *place = there;
+    *steps = run.position.steps;
+    packing::word_ended(ended)
 }
