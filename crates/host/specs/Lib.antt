@@ -1,0 +1,4 @@
+pub mod Packed
+pub mod Answered
+pub mod States
+pub mod Entries

@@ -1,0 +1,37 @@
+-- The one number that each entry hands back: what came of the call, with its counts, or with a refusal's number and place.
+use mathlib.Core.List.{List}
+use Prim.Native.Nat.{ℕ, _+_, _*_, _%_, _^_}
+use lib.ListN.{length}
+use Rattle.theory.specs.ProgramText.{Command, variables}
+use Rattle.theory.specs.Runs.{Outcome}
+use Rattle.theory.specs.TurnedDown.{Answer, done, refused}
+use Rattle.theory.specs.declared.End.{End}
+use Rattle.theory.specs.declared.End.the-variants.{Halted, Strayed, Spent, Full}
+
+-- Bits 56 to 63 say what came of the call, bits 32 to 47 hold one count and bits 0 to 31 another
+unfoldable pub pack : ℕ → ℕ → ℕ → ℕ
+pack what high low = what * 2 ^ 56 + (high % 2 ^ 16) * 2 ^ 32 + low % 2 ^ 32
+
+-- What came of the call: 0, it is done; 1 to 4, a run ended so; 255, it was turned down
+abbrev pub end-number : End → ℕ
+end-number Halted = 1
+end-number Strayed = 2
+end-number Spent = 3
+end-number Full = 4
+
+-- A result, packed by f, or the refusal: the rule's number and the place
+unfoldable pub packed : {A : Type 0} → (A → ℕ) → Answer A → ℕ
+packed f (done a) = f a
+packed f (refused r) = pack 255 (r .number) (r .place)
+
+-- A program: its variables and its commands
+abbrev pub commands : List Command → ℕ
+commands p = pack 0 (variables p) (length p)
+
+-- A list: its length
+abbrev pub count : {A : Type 0} → List A → ℕ
+count l = pack 0 0 (length l)
+
+-- A run: how it ended, and the steps taken
+abbrev pub ending : {S : Type 0} → Outcome S → ℕ
+ending o = pack (end-number (o .end)) 0 (o .steps)

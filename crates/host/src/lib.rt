@@ -1,0 +1,66 @@
+// The library for the tablets' host: its entries on numbers and slices, to be called from C by include/mudzkvopi.h. Each entry hands its arguments on to
+// the crate that does the work, and packs what comes back into one number.
+mod packing;
+mod states;
+
+use machine::Machine;
+use machine::Position;
+ghost use mathlib.Core.Path.{_≡_};
+ghost use Rattle.word.specs.Answers.{zipped};
+ghost use Rattle.host.specs.Entries.{RunsWord, ReadsWord, WritesWord, lent, stands-at};
+
+// The version of these entries.
+#[no_mangle]
+pub extern "C" fn mudzkvopi_version() -> u32
+    ensures { λ r. ⌜ r ≡ 1 ⌝ }
+{
+    1
+}
+
+// A word read into kinds and operands: rules 11 to 14, then 19.
+#[no_mangle]
+pub extern "C" fn mudzkvopi_read_word(word: &[u8], kinds: &mut [u8], operands: &mut [u32]) -> u64
+    ensures { λ r. ⌜ ReadsWord (now (word .entry)) (now (kinds .entry)) (now (operands .entry)) r (now (kinds .exit)) (now (operands .exit)) ⌝ }
+{
+    packing::word_read(word::read(word, &mut *kinds, &mut *operands))
+}
+
+// Kinds and operands written as a word: rules 11, 13 and 14 as for tables, then 19.
+#[no_mangle]
+pub extern "C" fn mudzkvopi_write_word(kinds: &[u8], operands: &[u32], word: &mut [u8]) -> u64
+    ensures { λ r. ⌜ WritesWord (zipped (now (kinds .entry)) (now (operands .entry))) (now (word .entry)) r (now (word .exit)) ⌝ }
+{
+    packing::word_written(word::write(kinds, operands, &mut *word))
+}
+
+// A word run on a lent machine, from a lent place and count of steps: rule 10, then 11 to 15.
+#[no_mangle]
+pub extern "C" fn mudzkvopi_run_word(
+    registers: u32,
+    capacity: u32,
+    store: &mut [u8],
+    lengths: &mut [u16],
+    place: &mut i32,
+    steps: &mut u32,
+    word: &[u8],
+    budget: u32,
+) -> u64
+    ensures { λ r. ⌜ RunsWord (lent registers capacity (now (store .entry)) (now (lengths .entry)))
+        (stands-at (now (place .entry)) (now (steps .entry))) (now (word .entry)) budget
+        r (now (store .exit)) (now (lengths .exit)) (stands-at (now (place .exit)) (now (steps .exit))) ⌝ }
+{
+    let m = Machine {
+        registers: registers as usize,
+        capacity: capacity as usize,
+    };
+    let at = Position {
+        place: *place,
+        steps: *steps,
+    };
+    let run = machine::run(m, &mut *store, &mut *lengths, at, word, budget);
+    let there = run.position.place;
+    let ended = run.ended;
+    *place = there;
+    *steps = run.position.steps;
+    packing::word_ended(ended)
+}
