@@ -1,0 +1,52 @@
+-- Laws of what is written: names of one digit or two, the lines of commands by their numbers, and the commands that are left to write.
+use mathlib.Core.Path.{_≡_, refl, sym, ap, _∙_}
+use mathlib.Core.List.{List, [], _∷_, _++_}
+use Prim.Native.Nat.{ℕ, suc, _+_, _*_, _<_, _≤_, _/_, _%_}
+use native.Mathlib.Omega.{arith}
+use borrow.Author.Tests.{ne-eqb}
+use lib.ListN.{length, length-append}
+use Rattle.theory.specs.Text.{Bytes, bytes, name-of}
+use Rattle.theory.proofs.Numerals.{decimal-small, decimal-large}
+use Rattle.program.specs.Spellings.{command-line}
+
+-- Names
+
+pub name-small : (i : ℕ) → i < 10 → name-of i ≡ 88 ∷ (48 + i) ∷ []
+unfolding name-of
+name-small i h = rw (decimal-small i h)
+
+pub name-large : (i : ℕ) → 10 ≤ i → i < 100 → name-of i ≡ 88 ∷ (48 + i / 10) ∷ (48 + i % 10) ∷ []
+unfolding name-of
+name-large i h k = rw (decimal-large i h, decimal-small (i / 10) (omega arith))
+
+-- Lines, by kind
+
+module _ (k i j : ℕ) where
+  pub line-1 : k ≡ 1 → command-line k i j ≡ name-of i ++ bytes " <- 0\n"
+  unfolding command-line
+  line-1 e = rw e
+
+  pub line-2 : k ≡ 2 → command-line k i j ≡ (name-of i ++ bytes " <- ") ++ (name-of i ++ bytes " + 1\n")
+  unfolding command-line
+  line-2 e = rw e
+
+  pub line-3 : k ≡ 3 → command-line k i j ≡ (name-of i ++ bytes " <- ") ++ (name-of j ++ bytes "\n")
+  unfolding command-line
+  line-3 e = rw e
+
+  pub line-4 : k ≡ 4 → command-line k i j ≡ bytes "loop " ++ (name-of i ++ bytes "\n")
+  unfolding command-line
+  line-4 e = rw e
+
+  pub line-5 : k ≡ 5 → command-line k i j ≡ bytes "endloop " ++ (name-of i ++ bytes "\n")
+  unfolding command-line
+  line-5 e = rw e
+
+  pub line-6 : k ≡ 6 → command-line k i j ≡ bytes "while " ++ (name-of i ++ bytes " != 0\n")
+  unfolding command-line
+  line-6 e = rw e
+
+  pub line-7 : (k ≡ 1 → ⊥) → (k ≡ 2 → ⊥) → (k ≡ 3 → ⊥) → (k ≡ 4 → ⊥) → (k ≡ 5 → ⊥) → (k ≡ 6 → ⊥)
+      → command-line k i j ≡ bytes "endwhile " ++ (name-of i ++ bytes " != 0\n")
+  unfolding command-line
+  line-7 n1 n2 n3 n4 n5 n6 = rw (ne-eqb k 1 n1, ne-eqb k 2 n2, ne-eqb k 3 n3, ne-eqb k 4 n4, ne-eqb k 5 n5, ne-eqb k 6 n6)
