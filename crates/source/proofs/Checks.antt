@@ -145,8 +145,7 @@ pub good-line : (p : List Command) (s : State) → is-source p (source-state s) 
 unfolding is-source
 good-line p s h =
     let limits : (is-limited 1024 (s .capacity) && is-limited (suc (length p)) (s .line)) ≡ true = and-first _ _ (and-first _ _ h) in
-    let line : is-limited (suc (length p)) (s .line) ≡ true = and-second (is-limited 1024 (s .capacity)) _ limits in
-    (
+    let line : is-limited (suc (length p)) (s .line) ≡ true = and-second (is-limited 1024 (s .capacity)) _ limits in (
       leb-true 1 (s .line) (and-first (leb 1 (s .line)) _ line),
       leb-true (s .line) (suc (length p)) (and-second (leb 1 (s .line)) _ line),
     )

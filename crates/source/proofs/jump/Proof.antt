@@ -163,7 +163,7 @@ returns-7 c capacity =
     let pair : 3 < kind-at (s .args .list .now) (s .args .line - 1) = s .pre .1 in
     let other : _ = c .match .rest in
     let last : _ = of-last-kind (s .args .list .now) (s .args .line - 1) (λ e. omega arith) (λ e. omega arith) (λ e. omega arith)
-        (other .0 .0 .1) (other .0 .1) (other .1) in
+    (other .0 .0 .1) (other .0 .1) (other .1) in
     while-back _ (r .filled .holds) capacity _ (r .low) (r .high) _ _ _ _ (r .filled) last
 
 pub jump-spec : {M : Type 1} → statement M
