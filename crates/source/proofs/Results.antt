@@ -1,17 +1,17 @@
 -- What a fresh state is, and what a run hands back: on a refusal the state as it was, else the state where the steps led.
-use mathlib.Core.Path.{_≡_, refl, sym, ap, _∙_, fun-ext}
-use mathlib.Core.Bool.{Bool, true, false}
+use mathlib.Core.Path.{_≡_, refl, ap, _∙_, fun-ext}
+use mathlib.Core.Bool.{true, false}
 use mathlib.Core.List.{List, [], _∷_}
-use Prim.Native.Nat.{ℕ, zero, suc, _+_, _-_, _≤_, _<_, min}
+use Prim.Native.Nat.{ℕ, zero, suc, _+_, _≤_}
 use native.Mathlib.Omega.{arith}
 use lib.ListN.{length, getD, replicate}
 use Rattle.theory.specs.Limits.{last-count, state-values, state-passes}
 use Rattle.theory.specs.Basics.{cells}
 use Rattle.theory.specs.ProgramText.{Command}
-use Rattle.theory.specs.Runs.{Outcome, run}
+use Rattle.theory.specs.Runs.{run}
 use Rattle.theory.specs.Source as S
 use Rattle.theory.specs.Machines.{SourceState, run-source}
-use Rattle.theory.specs.TurnedDown.{Answer, done, refused, is-source, rule-9}
+use Rattle.theory.specs.TurnedDown.{refused, is-source, rule-9}
 use Rattle.theory.specs.declared.Refusal.{Refusal}
 use Rattle.theory.proofs.Budgets.{steps-within}
 use Rattle.source.specs.Answers.{stands, source-state, fresh-state, Fresh, run-from, ended-by, state-by, moved-by, HandsBack}
@@ -66,11 +66,13 @@ module _ (l : List ℕ) (s : State) (budget : ℕ) (r : Stop) (vs ps : List ℕ)
       let few : _ = steps-within (machine-of l (s .capacity)) (allows budget (s .steps)) 0 (stands (s .line) (s .values) (s .passes)) in
       rw ran at few
 
-  pub run-back : s .steps ≤ last-count → is-source (program l) (source-state s) ≡ true → length vs ≡ state-values → length ps ≡ state-passes
+  pub run-back : s .steps ≤ last-count → is-source (program l) (source-state s) ≡ true
+      → length vs ≡ state-values → length ps ≡ state-passes
       → HandsBack s (run-from s budget (program l)) (record { state = stopped s r vs ps; ended = E.Ran (r .end) (r .taken) })
   unfolding run-from rule-9 run-source run-at ended-by state-by moved-by
   run-back counted good v p =
       let from : S.State = stands (s .line) (s .values) (s .passes) in
+      let a : ℕ = allows budget (s .steps) in
       let same : run (machine-of l (s .capacity)) budget (s .steps) from ≡ outcome-of r vs ps =
-      same-allowed (machine-of l (s .capacity)) (allows budget (s .steps)) budget (allows budget (s .steps)) (s .steps) 0 from refl (omega arith) ∙ ran in
+      same-allowed (machine-of l (s .capacity)) a budget a (s .steps) 0 from refl (omega arith) ∙ ran in
       rw (good, same) (record { ended = refl; state = rw (cells-of 32 vs v, cells-of 16 ps p) refl; stands = refl })

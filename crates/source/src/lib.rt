@@ -1,5 +1,5 @@
-// The source interpreter of document 01 ("The program text", "Machines of the set"): a program, as text or as a list of three numbers a command,
-// run from a state with a budget. Rules 1 to 8 (3 to 8 for a list), then 9.
+// The source interpreter of document 01 ("The program text", "Machines of the set"): a program, as text or as a list of three numbers a
+// command, run from a state with a budget. Rules 1 to 8 (3 to 8 for a list), then 9.
 ghost use mathlib.Core.Path.{_≡_};
 ghost use Prim.Native.Nat.{ℕ, _+_, _-_, _*_, _<_, _≤_, min};
 ghost use lib.ListN.{length, getD, set};
@@ -12,8 +12,8 @@ use program::Checked;
 use theory::End;
 use theory::Refusal;
 
-// Where a run stands: the capacity of every variable, the line, the count of steps, the variables, and the passes left of each loop around the
-// line, by the number of loops around that loop.
+// Where a run stands: the capacity of every variable, the line, the count of steps, the variables, and the passes left of each loop around
+// the line, by the number of loops around that loop.
 pub struct State {
     pub capacity: u32,
     pub line: u32,
@@ -22,8 +22,8 @@ pub struct State {
     pub passes: [u32; 16],
 }
 
-// "The limits and the fresh states belong to the record types they bound": the most capacity, how many values and passes-left a state has, and
-// the count of steps at which a run ends as spent.
+// "The limits and the fresh states belong to the record types they bound": the most capacity, how many values and passes-left a state has,
+// and the count of steps at which a run ends as spent.
 impl State {
     pub const CAPACITY: u32 = 1024;
 
@@ -96,7 +96,7 @@ fn fill_entries(list: &[u8], lines: usize, entries: &mut [u8])
     }
 }
 
-// Sets the targets of a pair, its lines counted from 0: from the first past the last, and from the last to so far past the line before the first.
+// Sets the targets of a pair, its lines counted from 0: from the first, the line past the last; from the last, the first or past it.
 fn link(targets: &mut [u16], first: usize, last: usize, past: usize)
     requires { ⌜ (first < 512) × (last < 512) × (past < 3) × (first < length (now targets)) × (last < length (now targets)) ⌝ }
     ensures { λ _. ⌜ now (targets .exit) ≡ set (set (now (targets .entry)) first (last + 2)) last (first + past) ⌝ }
