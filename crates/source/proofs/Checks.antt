@@ -1,16 +1,16 @@
 -- Rule 9 as the code checks it: a value, an entry of the passes-left, all of them, and the number of loops around the state's line.
 use mathlib.Core.Path.{_≡_, refl, sym, ap, _∙_}
-use mathlib.Core.Bool.{Bool, true, false, cond, _&&_, _||_}
+use mathlib.Core.Bool.{Bool, true, false, _&&_}
 use mathlib.Core.List.{List}
-use Prim.Native.Nat.{ℕ, zero, suc, pred, _+_, _-_, _*_, _≤_, _<_}
+use Prim.Native.Nat.{ℕ, zero, suc, pred, _+_, _-_, _≤_, _<_}
 use native.Mathlib.Decide.{ℕ-discrete}
 use native.Mathlib.Numerals.{add-one}
 use native.Mathlib.Omega.{arith}
 use borrow.Author.Tests.{lt-ltb, le-ltb, le-leb, lt-leb, leb-true, eqb-true}
 use lib.ListN.{length, getD}
-use lib.Dec.{leb, ltb, eqb}
+use lib.Dec.{leb, eqb}
 use Rattle.theory.specs.Basics.{all-below}
-use Rattle.theory.specs.ProgramText.{Command, plain, opens, closes, loop, while, variables}
+use Rattle.theory.specs.ProgramText.{Command, variables}
 use Rattle.theory.specs.Source.{depth}
 use Rattle.theory.specs.Machines.{is-limited}
 use Rattle.theory.specs.TurnedDown.{is-value, is-passes, is-source}
@@ -19,7 +19,7 @@ use Rattle.source.specs.Answers.{source-state}
 use Rattle.source.specs.declared.State.{State}
 use Rattle.source.specs.Lines.{program, Deep, entry-at, all-values, all-passes}
 use Rattle.source.proofs.Program.{depth-last}
-use Rattle.source.proofs.Steps.{kind-at, first-at, of-kind}
+use Rattle.source.proofs.Steps.{kind-at, of-kind}
 use Rattle.source.proofs.Entries.{closed-depth, off-endloop}
 
 and-true : (b : Bool) → (b && true) ≡ b
@@ -145,8 +145,7 @@ pub good-line : (p : List Command) (s : State) → is-source p (source-state s) 
 unfolding is-source
 good-line p s h =
     let limits : (is-limited 1024 (s .capacity) && is-limited (suc (length p)) (s .line)) ≡ true = and-first _ _ (and-first _ _ h) in
-    let line : is-limited (suc (length p)) (s .line) ≡ true = and-second (is-limited 1024 (s .capacity)) _ limits in
-    (
+    let line : is-limited (suc (length p)) (s .line) ≡ true = and-second (is-limited 1024 (s .capacity)) _ limits in (
       leb-true 1 (s .line) (and-first (leb 1 (s .line)) _ line),
       leb-true (s .line) (suc (length p)) (and-second (leb 1 (s .line)) _ line),
     )

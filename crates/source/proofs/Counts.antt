@@ -1,13 +1,13 @@
 -- A run of any machine goes by its budget and its count only through the steps that both allow.
 use mathlib.Core.Path.{_≡_, refl, sym, ap, _∙_}
-use mathlib.Core.Bool.{Bool, true, false}
+use mathlib.Core.Bool.{true}
 use mathlib.Core.Option.{Option, none, some}
-use Prim.Native.Nat.{ℕ, zero, suc, _+_, _-_, _≤_, _<_, min}
+use Prim.Native.Nat.{ℕ, zero, suc, _-_, min}
 use native.Mathlib.Omega.{arith}
 use borrow.Author.Tests.{lt-ltb, le-ltb}
 use lib.Dec.{ltb}
 use Rattle.theory.specs.Limits.{last-count}
-use Rattle.theory.specs.Runs.{Machine, Outcome, stop, stepped, run}
+use Rattle.theory.specs.Runs.{Machine, stop, stepped, run}
 use Rattle.theory.specs.declared.End.{End}
 use Rattle.theory.specs.declared.End.the-variants.{Spent}
 use Rattle.theory.proofs.Budgets.{run-ended, run-spent, run-counted, run-full, run-step}

@@ -1,9 +1,9 @@
 -- The entries of the passes-left, filled line by line: as many loops are open as are around the next line.
-use mathlib.Core.Path.{_≡_, refl, sym, ap, _∙_, subst}
+use mathlib.Core.Path.{_≡_, refl, sym, ap, _∙_}
 use mathlib.Core.Bool.{Bool, true, false}
-use mathlib.Core.Option.{Option, none, some}
-use mathlib.Core.List.{List, [], _∷_}
-use Prim.Native.Nat.{ℕ, zero, suc, pred, _+_, _-_, _*_, _≤_, _<_}
+use mathlib.Core.Option.{some}
+use mathlib.Core.List.{List}
+use Prim.Native.Nat.{ℕ, suc, pred, _+_, _-_, _≤_, _<_}
 use native.Mathlib.Decide.{ℕ-discrete}
 use native.Mathlib.Numerals.{add-one}
 use native.Mathlib.Omega.{arith}
@@ -12,11 +12,11 @@ use lib.ListN.{length, getD, set}
 use lib.Seq.{getD-set-same, getD-set-other}
 use lib.Dec.{eqb}
 use Rattle.theory.specs.Limits.{most-open}
-use Rattle.theory.specs.ProgramText.{Plain, clear, increment, copy, Kind, loop, while, Command, plain, opens, closes}
-use Rattle.theory.specs.Source.{Opening, closed, innermost, open-at, opening, closing, depth}
-use Rattle.theory.proofs.Partners.{Known, Partners, depth-start}
-use Rattle.source.specs.Lines.{program, Holds, command-at, entry-of, entry-at, Jump, Reaches}
-use Rattle.source.proofs.Program.{here, partner, open-more, depth-room}
+use Rattle.theory.specs.ProgramText.{Plain, clear, increment, copy, loop, while, Command, plain, opens, closes}
+use Rattle.theory.specs.Source.{depth}
+use Rattle.theory.proofs.Partners.{Known, depth-start}
+use Rattle.source.specs.Lines.{program, Holds, command-at, entry-of, entry-at}
+use Rattle.source.proofs.Program.{here, partner, depth-room}
 use Rattle.source.proofs.Steps.{kind-at, first-at, second-at, of-kind, by-tests}
 
 -- What held of the cells below n holds of those up to n, once n has its value
@@ -75,7 +75,8 @@ module _ (l : List ℕ) (h : Holds l) (n : ℕ) (inside : n < length (program l)
 
   abbrev Even : Command → Type 0
   Even c = Known (program l) (suc n) c
-      → (depth (program l) (suc (suc n)) ≡ depth (program l) (suc n)) × (entry-of c (depth (program l) (suc n)) ≡ depth (program l) (suc n))
+      → (depth (program l) (suc (suc n)) ≡ depth (program l) (suc n))
+      × (entry-of c (depth (program l) (suc n)) ≡ depth (program l) (suc n))
 
   same-depth : (kind-at l n ≡ 4 → ⊥) → (kind-at l n ≡ 5 → ⊥) → Even (command-at l n)
   same-depth four five = off-loops Even l n (λ c k. (k, refl)) (λ i k. (k .1 .body-depth, refl))

@@ -1,6 +1,6 @@
 -- The accepted program that a list holds, line by line: the command there, its indices, its partner, and the pairs open.
 use mathlib.Core.Path.{_≡_, refl, sym, ap, _∙_}
-use mathlib.Core.Option.{Option, none, some, Option·none-ne-some}
+use mathlib.Core.Option.{some, Option·none-ne-some}
 use mathlib.Core.List.{List, [], _∷_, map}
 use Prim.Native.Nat.{ℕ, zero, suc, _+_, _*_, _≤_, _<_}
 use native.Mathlib.Nat.{add-zero, add-suc, suc-add}
@@ -9,9 +9,10 @@ use native.Mathlib.Omega.{arith}
 use lib.ListN.{length, getD, getElem?, take, length-map}
 use Rattle.theory.specs.Limits.{most-lines, most-index, most-open}
 use Rattle.theory.specs.Basics.{at}
-use Rattle.theory.specs.ProgramText.{Kind, loop, while, clear, increment, copy, Command, plain, opens, closes, indices, above, numbers, list-of, lines, block-of}
+use Rattle.theory.specs.ProgramText.{Kind, loop, while, clear, increment, copy, Command, plain, opens, closes, indices, above}
+use Rattle.theory.specs.ProgramText.{numbers, list-of, lines, block-of}
 use Rattle.theory.specs.Source.{Opening, closed, open-after, open-at, deeper, loops, depth}
-use Rattle.theory.specs.TurnedDown.{Open, open-next}
+use Rattle.theory.specs.TurnedDown.{Open}
 use Rattle.theory.specs.Claims.{Accepted, EachOf}
 use Rattle.theory.proofs.Nesting.{short, sound, low, LowIndices, LinesSound, lines-sound, few-open, one-open, well-nested}
 use Rattle.theory.proofs.Partners.{Known, known, depth-end}

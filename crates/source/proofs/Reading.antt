@@ -89,7 +89,9 @@ module _ (lent : List ℕ) (t : List ℕ) (size : length lent ≡ 1536) where
     last-is = stored ∙ rw (buffer-read, a .is-done)
 
     pub numbers-are : take (3 * x .lines) last ≡ list-of p
-    numbers-are = rw last-is (take-at (list-of p) (drop (length (list-of p)) lent) (3 * x .lines) (omega (arith, list-length p, a .lines-are)))
+    numbers-are =
+        let size-is : length (list-of p) ≡ 3 * x .lines = omega (arith, list-length p, a .lines-are) in
+        rw last-is (take-at (list-of p) (drop (length (list-of p)) lent) (3 * x .lines) size-is)
 
     pub text-given : Given (take (3 * x .lines) last) (x .lines) (x .variables)
     text-given = rw numbers-are (record {

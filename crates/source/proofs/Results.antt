@@ -1,25 +1,42 @@
--- What a run hands back is what the definitions give: on a refusal the state as it was, else the state where the steps led.
-use mathlib.Core.Path.{_≡_, refl, sym, ap, _∙_}
-use mathlib.Core.Bool.{Bool, true, false}
+-- What a fresh state is, and what a run hands back: on a refusal the state as it was, else the state where the steps led.
+use mathlib.Core.Path.{_≡_, refl, ap, _∙_, fun-ext}
+use mathlib.Core.Bool.{true, false}
 use mathlib.Core.List.{List, [], _∷_}
-use Prim.Native.Nat.{ℕ, zero, suc, _+_, _-_, _≤_, _<_, min}
+use Prim.Native.Nat.{ℕ, zero, suc, _+_, _≤_}
 use native.Mathlib.Omega.{arith}
-use lib.ListN.{length, getD}
+use lib.ListN.{length, getD, replicate}
 use Rattle.theory.specs.Limits.{last-count, state-values, state-passes}
 use Rattle.theory.specs.Basics.{cells}
 use Rattle.theory.specs.ProgramText.{Command}
-use Rattle.theory.specs.Runs.{Outcome, run}
+use Rattle.theory.specs.Runs.{run}
 use Rattle.theory.specs.Source as S
-use Rattle.theory.specs.Machines.{run-source}
-use Rattle.theory.specs.TurnedDown.{Answer, done, refused, is-source, rule-9}
+use Rattle.theory.specs.Machines.{SourceState, run-source}
+use Rattle.theory.specs.TurnedDown.{refused, is-source, rule-9}
 use Rattle.theory.specs.declared.Refusal.{Refusal}
 use Rattle.theory.proofs.Budgets.{steps-within}
-use Rattle.source.specs.Answers.{stands, source-state, run-from, ended-by, state-by, moved-by, HandsBack}
+use Rattle.source.specs.Answers.{stands, source-state, fresh-state, Fresh, run-from, ended-by, state-by, moved-by, HandsBack}
 use Rattle.source.specs.Lines.{program, machine-of, run-at, outcome-of}
 use Rattle.source.specs.declared.State.{State}
 use Rattle.source.specs.declared.Stop.{Stop}
 use Rattle.source.specs.declared.Ended.the-variants as E
 use Rattle.source.proofs.Counts.{allows, same-allowed}
+
+-- A fresh state
+
+all-zero : (n d : ℕ) → _≡_ {A = ℕ} (getD (replicate n 0) d 0) 0
+all-zero zero d = refl
+all-zero (suc n) zero = refl
+all-zero (suc n) (suc d) = all-zero n d
+
+pub fresh-back : (capacity : ℕ) (values : List ℕ) → Fresh capacity values (fresh-state capacity values)
+fresh-back capacity values = record {
+  state = refl;
+  stands = ap {B = SourceState}
+      (λ f. record { capacity = capacity; steps = 0; state = record { line = 1; values = λ i. getD values i 0; passes = f } })
+      (fun-ext λ d. all-zero state-passes d);
+}
+
+-- A run
 
 cells-of : (n : ℕ) (l : List ℕ) → length l ≡ n → cells n (λ i. getD l i 0) ≡ l
 cells-of zero [] e = refl
@@ -49,11 +66,13 @@ module _ (l : List ℕ) (s : State) (budget : ℕ) (r : Stop) (vs ps : List ℕ)
       let few : _ = steps-within (machine-of l (s .capacity)) (allows budget (s .steps)) 0 (stands (s .line) (s .values) (s .passes)) in
       rw ran at few
 
-  pub run-back : s .steps ≤ last-count → is-source (program l) (source-state s) ≡ true → length vs ≡ state-values → length ps ≡ state-passes
+  pub run-back : s .steps ≤ last-count → is-source (program l) (source-state s) ≡ true
+      → length vs ≡ state-values → length ps ≡ state-passes
       → HandsBack s (run-from s budget (program l)) (record { state = stopped s r vs ps; ended = E.Ran (r .end) (r .taken) })
   unfolding run-from rule-9 run-source run-at ended-by state-by moved-by
   run-back counted good v p =
       let from : S.State = stands (s .line) (s .values) (s .passes) in
+      let a : ℕ = allows budget (s .steps) in
       let same : run (machine-of l (s .capacity)) budget (s .steps) from ≡ outcome-of r vs ps =
-      same-allowed (machine-of l (s .capacity)) (allows budget (s .steps)) budget (allows budget (s .steps)) (s .steps) 0 from refl (omega arith) ∙ ran in
+      same-allowed (machine-of l (s .capacity)) a budget a (s .steps) 0 from refl (omega arith) ∙ ran in
       rw (good, same) (record { ended = refl; state = rw (cells-of 32 vs v, cells-of 16 ps p) refl; stands = refl })

@@ -1,8 +1,8 @@
 -- A step of each kind, as the code makes it on lists, is the definition's.
 use mathlib.Core.Path.{_≡_, refl, sym, ap, _∙_, subst, fun-ext}
 use mathlib.Core.Bool.{Bool, true, false, cond}
-use mathlib.Core.Option.{Option, none, some}
-use mathlib.Core.List.{List, [], _∷_}
+use mathlib.Core.Option.{none, some}
+use mathlib.Core.List.{List}
 use Prim.Native.Nat.{ℕ, zero, suc, pred, _+_, _-_, _*_, _≤_, _<_}
 use native.Mathlib.Numerals.{add-one}
 use native.Mathlib.Omega.{arith}
@@ -11,7 +11,7 @@ use lib.ListN.{length, getD, set}
 use lib.Seq.{getD-set-same, getD-set-other}
 use lib.Dec.{eqb, leb}
 use Rattle.theory.specs.Limits.{state-values, state-passes, most-index}
-use Rattle.theory.specs.Basics.{at, put, given}
+use Rattle.theory.specs.Basics.{at, put}
 use Rattle.theory.specs.ProgramText.{Command, plain, clear, increment, copy, opens, closes, loop, while, indices, above}
 use Rattle.theory.specs.Runs.{within}
 use Rattle.theory.specs.Source as S
@@ -35,7 +35,8 @@ stored line vs ps i x h =
     rw add-one (ap {B = State} (λ f. record { line = suc line; values = f; passes = λ d. getD ps d 0 }) (put-set vs i x h))
 
 entered : (line : ℕ) (vs ps : List ℕ) (d k : ℕ) → d < length ps
-    → _≡_ {A = State} (record { line = line; values = λ i. getD vs i 0; passes = put (λ d. getD ps d 0) d k }) (stands line vs (set ps d k))
+    → _≡_ {A = State} (record { line = line; values = λ i. getD vs i 0; passes = put (λ d. getD ps d 0) d k })
+    (stands line vs (set ps d k))
 entered line vs ps d k h = ap {B = State} (λ f. record { line = line; values = λ i. getD vs i 0; passes = f }) (put-set ps d k h)
 
 -- Every command names its first index
@@ -219,7 +220,8 @@ module _ (l : List ℕ) (h : Holds l) (capacity line : ℕ) (low : 0 < line) (hi
         → Stepped (program l) capacity line vs ps (N.At (line + 1)) vs (set ps d (getD vs (first-at l m) 0))
     loop-in e n b =
         let k : ℕ = getD vs (first-at l m) 0 in
-        let entry : d ≡ S.depth (program l) line = opening-entry l h m inside es (tables .enters m inside) e .0 ∙ ap (S.depth (program l)) (sym from) in
+        let entry : d ≡ S.depth (program l) line =
+        opening-entry l h m inside es (tables .enters m inside) e .0 ∙ ap (S.depth (program l)) (sym from) in
         goes-on vs (set ps d k)
         (performs (opens loop (first-at l m)) (of-kind l m 4 e)
         ∙ ap some (begun (program l) (stands line vs ps) k n ∙ rw (← entry, add-one line) (entered (suc line) vs ps d k b)))

@@ -1,8 +1,8 @@
 -- The targets of a run, filled line by line with a stack of the lines that are open: a closing line sets its own target and its partner's.
 use mathlib.Core.Path.{_≡_, refl, sym, ap, _∙_, subst}
-use mathlib.Core.Option.{Option, none, some, Option·some-injective}
+use mathlib.Core.Option.{none, some, Option·some-injective}
 use mathlib.Core.List.{List, [], _∷_}
-use Prim.Native.Nat.{ℕ, zero, suc, _+_, _-_, _≤_, _<_}
+use Prim.Native.Nat.{ℕ, suc, _+_, _-_, _≤_, _<_}
 use native.Mathlib.Decide.{ℕ-discrete}
 use native.Mathlib.Numerals.{add-one}
 use native.Mathlib.Omega.{arith}
@@ -11,10 +11,10 @@ use lib.Seq.{getD-set-same, getD-set-other}
 use Rattle.theory.specs.Limits.{most-open}
 use Rattle.theory.specs.Basics.{at}
 use Rattle.theory.specs.ProgramText.{Plain, clear, increment, copy, Kind, loop, while, Command, plain, opens, closes}
-use Rattle.theory.specs.Source.{Opening, closed, innermost, open-after, open-at, opening, closing}
+use Rattle.theory.specs.Source.{Opening, closed, innermost, open-at, opening, closing}
 use Rattle.theory.proofs.Cells.{at-within}
 use Rattle.theory.proofs.Partners.{Known, Partners}
-use Rattle.source.specs.Lines.{program, Holds, command-at, Jump, Reaches}
+use Rattle.source.specs.Lines.{program, Holds, command-at, Reaches}
 use Rattle.source.proofs.Program.{here, kind-within, past-plain, partner, open-more, open-room}
 use Rattle.source.proofs.Steps.{kind-at, first-at, second-at, of-kind}
 
@@ -75,7 +75,8 @@ past-six : (k : ℕ) → 4 ≤ k → k ≤ 7 → (k ≡ 4 → ⊥) → (k ≡ 5 
 past-six k low high a b c = omega arith
 
 -- Line n is passed
-module _ (l : List ℕ) (h : Holds l) (n : ℕ) (inside : n < length (program l)) (deep : ℕ) (st ts : List ℕ) (before : Linking l n deep st ts) where
+module _ (l : List ℕ) (h : Holds l) (n : ℕ) (inside : n < length (program l))
+    (deep : ℕ) (st ts : List ℕ) (before : Linking l n deep st ts) where
   abbrev p : List Command
   p = program l
 
@@ -190,12 +191,14 @@ module _ (l : List ℕ) (h : Holds l) (n : ℕ) (inside : n < length (program l)
     opened-due : (c : Command) → command-at l first ≡ c → Reaches p (suc first) c (n + 2)
     unfolding Reaches
     opened-due c e′ =
-        let same : c ≡ opens k i = Option·some-injective _ _ (sym (here l h first (omega (arith, first-before)) ∙ ap some e′) ∙ pairs-with .open-line) in
+        let fetch : at p (suc first) ≡ some c = here l h first (omega (arith, first-before)) ∙ ap some e′ in
+        let same : c ≡ opens k i = Option·some-injective _ _ (sym fetch ∙ pairs-with .open-line) in
         let goal : n + 2 ≡ suc (closing p (suc first)) = omega (arith, pairs-with .closing-is) in
         rw same (record { to = goal; low = omega arith; high = omega arith })
 
     -- Of any other line before: what is due was due before
-    other-due : (m : ℕ) → m < n → (m ≡ first → ⊥) → (c : Command) → command-at l m ≡ c → due-by p (suc m) c ≤ n + 1 → due-by p (suc m) c ≤ n
+    other-due : (m : ℕ) → m < n → (m ≡ first → ⊥) → (c : Command) → command-at l m ≡ c
+        → due-by p (suc m) c ≤ n + 1 → due-by p (suc m) c ≤ n
     other-due m less other (plain c) e′ d = omega arith
     other-due m less other (closes k′ i′) e′ d = omega arith
     other-due m less other (opens k′ i′) e′ d = go (ℕ-discrete (closing p (suc m)) (suc n))

@@ -1,16 +1,15 @@
 -- A run underway: what the loop of steps keeps, by the laws of a run of any machine.
-use mathlib.Core.Path.{_≡_, refl, sym, ap, _∙_}
-use mathlib.Core.Bool.{Bool, true, false}
-use mathlib.Core.Option.{Option, none, some}
+use mathlib.Core.Path.{_≡_, _∙_}
+use mathlib.Core.Bool.{true}
+use mathlib.Core.Option.{none, some}
 use mathlib.Core.List.{List}
-use Prim.Native.Nat.{ℕ, zero, suc, _+_, _-_, _^_, _≤_, _<_}
+use Prim.Native.Nat.{ℕ, suc, _+_, _-_, _^_, _≤_, _<_}
 use native.Mathlib.Numerals.{add-one}
 use native.Mathlib.Omega.{arith}
 use borrow.Author.Tests.{lt-ltb, eq-eqb, ne-eqb}
 use lib.ListN.{length}
-use lib.Dec.{ltb, eqb}
+use lib.Dec.{ltb}
 use Rattle.theory.specs.Limits.{last-count, state-values, state-passes}
-use Rattle.theory.specs.Basics.{given}
 use Rattle.theory.specs.Runs.{Machine, Outcome}
 use Rattle.theory.specs.Source as S
 use Rattle.theory.specs.declared.End.{End}
@@ -64,9 +63,15 @@ module _ (l : List ℕ) (capacity : ℕ) (o : Outcome S.State) (allowed taken li
       let at-end : line ≡ suc (length (program l)) = omega (arith, g .high) in
       underway-ended M o taken (allowed - taken) taken (stands line vs ps) (g .left) Halted (halted-at l capacity line vs ps at-end)
 
+  abbrev at : S.State
+  at = stands line vs ps
+
   module _ (here : line ≤ length (program l)) where
+    goes : M .ended at ≡ none
+    goes = goes-at l capacity line vs ps here
+
     pub going-spent : taken ≡ allowed → o ≡ ends Spent
-    going-spent all = underway-spent M o taken (allowed - taken) taken (stands line vs ps) (g .left) (goes-at l capacity line vs ps here) (omega arith)
+    going-spent all = underway-spent M o taken (allowed - taken) taken at (g .left) goes (omega arith)
 
     module _ (some-left : (taken ≡ allowed) → ⊥) (counts : allowed < 2 ^ 32) where
       b : ℕ
@@ -83,7 +88,7 @@ module _ (l : List ℕ) (capacity : ℕ) (o : Outcome S.State) (allowed taken li
           → o ≡ record { end = Full; steps = taken; state = stands line vs′ ps′ }
       going-full vs′ ps′ step =
           rw (step .kept .0, step .kept .1)
-          (underway-full M o taken (allowed - taken) taken (stands line vs ps) (g .left) b one-less (goes-at l capacity line vs ps here) counted (step .next))
+          (underway-full M o taken (allowed - taken) taken at (g .left) b one-less goes counted (step .next))
 
       pub going-on : (next : ℕ) (vs′ ps′ : List ℕ) → Stepped (program l) capacity line vs ps (N.At next) vs′ ps′
           → length vs′ ≡ length vs → length ps′ ≡ length ps → Going l capacity o allowed (taken + 1) next vs′ ps′
@@ -95,6 +100,6 @@ module _ (l : List ℕ) (capacity : ℕ) (o : Outcome S.State) (allowed taken li
         passes-are = p ∙ g .passes-are;
         enough = omega (arith, g .enough);
         left =
-            underway-step M o taken (allowed - taken) taken (stands line vs ps) (g .left) (taken + 1) b (taken + 1) (stands next vs′ ps′)
-            (add-one taken) one-less (add-one taken) (goes-at l capacity line vs ps here) counted (step .next);
+            underway-step M o taken (allowed - taken) taken at (g .left) (taken + 1) b (taken + 1) (stands next vs′ ps′)
+            (add-one taken) one-less (add-one taken) goes counted (step .next);
       }

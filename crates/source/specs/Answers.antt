@@ -8,7 +8,7 @@ use Rattle.theory.specs.Limits.{state-values, state-passes}
 use Rattle.theory.specs.ProgramText.{Command}
 use Rattle.theory.specs.Runs.{Outcome}
 use Rattle.theory.specs.Source as S
-use Rattle.theory.specs.Machines.{SourceState, run-source}
+use Rattle.theory.specs.Machines.{SourceState, fresh-source, run-source}
 use Rattle.theory.specs.TurnedDown.{Answer, done, refused, answer, rule-9}
 use Rattle.source.specs.declared.State.{State}
 use Rattle.source.specs.declared.Run.{Run}
@@ -24,7 +24,15 @@ source-state s = record { capacity = s .capacity; steps = s .steps; state = stan
 
 -- "A fresh state has line or place 1, no steps and passes-left all 0"
 abbrev pub fresh-state : ℕ → List ℕ → State
-fresh-state capacity values = record { capacity = capacity; line = 1; steps = 0; values = values; passes = replicate 16 0 }
+fresh-state capacity values = record { capacity = capacity; line = 1; steps = 0; values = values; passes = replicate state-passes 0 }
+
+-- The same, as the definitions have it
+abbrev pub fresh-from : ℕ → List ℕ → SourceState
+fresh-from capacity values = record { capacity = capacity; steps = 0; state = fresh-source (λ i. getD values i 0) }
+
+pub record Fresh (capacity : ℕ) (values : List ℕ) (r : State) : Type 0 where
+  pub state : r ≡ fresh-state capacity values
+  pub stands : source-state r ≡ fresh-from capacity values
 
 -- A program run from a state: rule 9, and then the run
 unfoldable pub run-from : State → ℕ → List Command → Answer (Outcome S.State)
@@ -52,8 +60,8 @@ unfoldable pub moved-by : SourceState → Answer (Outcome S.State) → SourceSta
 moved-by s (done o) = record { capacity = s .capacity; steps = s .steps + o .steps; state = o .state }
 moved-by s (refused x) = s
 
--- A run from s that hands back what the definitions give. `state` fixes every number of it, and `stands` says that it is the definitions' state
--- and no part of that: from there a later call goes on
+-- A run from s that hands back what the definitions give. `state` fixes every number of it; `stands` says that it is the whole of the
+-- definitions' state, so that a later call goes on from there
 pub record HandsBack (s : State) (a : Answer (Outcome S.State)) (r : Run) : Type 0 where
   pub ended : r .ended ≡ ended-by a
   pub state : r .state ≡ state-by s a

@@ -1,15 +1,19 @@
-// The source interpreter of document 01.
+// The source interpreter of document 01 ("The program text", "Machines of the set"): a program, as text or as a list of three numbers a
+// command, run from a state with a budget. Rules 1 to 8 (3 to 8 for a list), then 9.
 ghost use mathlib.Core.Path.{_≡_};
 ghost use Prim.Native.Nat.{ℕ, _+_, _-_, _*_, _<_, _≤_, min};
 ghost use lib.ListN.{length, getD, set};
-ghost use Rattle.source.specs.Answers.{source-state, fresh-state, run-from, HandsBack};
-ghost use Rattle.source.specs.Lines.{program, Holds, Fits, Entered, Linked, Filled, Ready, Stepped, Startable, run-at, outcome-of, all-values, all-passes, Deep, Given};
 ghost use Rattle.theory.specs.Source.{depth};
 ghost use Rattle.theory.specs.TurnedDown.{after, read-text, read-list, is-value, is-passes, is-source};
+ghost use Rattle.source.specs.Answers.{source-state, Fresh, run-from, HandsBack};
+ghost use Rattle.source.specs.Lines.{program, Given, Fits, Entered, Linked, Ready, Stepped, Startable, run-at, outcome-of};
+ghost use Rattle.source.specs.Lines.{all-values, all-passes, Deep};
 use program::Checked;
 use theory::End;
 use theory::Refusal;
 
+// Where a run stands: the capacity of every variable, the line, the count of steps, the variables, and the passes left of each loop around
+// the line, by the number of loops around that loop.
 pub struct State {
     pub capacity: u32,
     pub line: u32,
@@ -18,6 +22,8 @@ pub struct State {
     pub passes: [u32; 16],
 }
 
+// "The limits and the fresh states belong to the record types they bound": the most capacity, how many values and passes-left a state has,
+// and the count of steps at which a run ends as spent.
 impl State {
     pub const CAPACITY: u32 = 1024;
 
@@ -27,8 +33,9 @@ impl State {
 
     pub const STEPS: u32 = 4294967295;
 
+    // Line 1, no steps, and no passes left.
     pub fn fresh(capacity: u32, values: [u32; 32]) -> State
-        ensures { λ r. ⌜ r ≡ fresh-state capacity values ⌝ }
+        ensures { λ r. ⌜ Fresh capacity values r ⌝ }
     {
         State {
             capacity,
@@ -40,28 +47,32 @@ impl State {
     }
 }
 
+// How a run ended and the steps that it took, or why it was refused.
 pub enum Ended {
     Ran(End, u32),
     Refused(Refusal),
 }
 
+// What a run hands back. A refusal leaves the state as it was.
 pub struct Run {
     pub state: State,
     pub ended: Ended,
 }
 
+// The line after a step; or the step would be full.
 enum Next {
     At(u32),
     Full,
 }
 
+// Where the steps stopped, how many they were, and why.
 struct Stop {
     line: u32,
     taken: u32,
     end: End,
 }
 
-// Fills, for each line, the entry of the passes-left that its loop has.
+// Fills, for each line, the entry of the passes-left of the loop that it opens or closes.
 fn fill_entries(list: &[u8], lines: usize, entries: &mut [u8])
     requires { ⌜ Fits (now list) lines (now entries) ⌝ }
     ensures { λ _. ⌜ Entered (now (list .entry)) (now (entries .exit)) ⌝ }
@@ -85,7 +96,7 @@ fn fill_entries(list: &[u8], lines: usize, entries: &mut [u8])
     }
 }
 
-// Sets the targets of a pair: past the closing line, and from there so far past the opening one.
+// Sets the targets of a pair, its lines counted from 0: from the first, the line past the last; from the last, the first or past it.
 fn link(targets: &mut [u16], first: usize, last: usize, past: usize)
     requires { ⌜ (first < 512) × (last < 512) × (past < 3) × (first < length (now targets)) × (last < length (now targets)) ⌝ }
     ensures { λ _. ⌜ now (targets .exit) ≡ set (set (now (targets .entry)) first (last + 2)) last (first + past) ⌝ }
@@ -123,7 +134,7 @@ fn fill_targets(list: &[u8], lines: usize, targets: &mut [u16])
     }
 }
 
-// A step at a line of a pair.
+// A step at a line of a pair: kinds 4 to 7. A pass may change the loop's variable: what counts is the passes left.
 fn jump(
     list: &[u8],
     targets: &[u16],
@@ -133,7 +144,10 @@ fn jump(
     passes: &mut [u32],
 ) -> Next
     requires { ⌜ Ready (now list) (now targets) (now entries) line (now values) (now passes) × (3 < getD (now list) (3 * (line - 1)) 0) ⌝ }
-    ensures { λ r. ⌜ ((capacity : ℕ) → Stepped (program (now (list .entry))) capacity line (now (values .entry)) (now (passes .entry)) r (now (values .entry)) (now (passes .exit))) ⌝ }
+    ensures { λ r. ⌜
+        ((capacity : ℕ) → Stepped (program (now (list .entry))) capacity line
+        (now (values .entry)) (now (passes .entry)) r (now (values .entry)) (now (passes .exit)))
+        ⌝ }
 {
     let here = line as usize - 1;
     let next = line + 1;
@@ -178,7 +192,10 @@ fn step(
     passes: &mut [u32],
 ) -> Next
     requires { ⌜ Ready (now list) (now targets) (now entries) line (now values) (now passes) ⌝ }
-    ensures { λ r. ⌜ Stepped (program (now (list .entry))) capacity line (now (values .entry)) (now (passes .entry)) r (now (values .exit)) (now (passes .exit)) ⌝ }
+    ensures { λ r. ⌜
+        Stepped (program (now (list .entry))) capacity line
+        (now (values .entry)) (now (passes .entry)) r (now (values .exit)) (now (passes .exit))
+        ⌝ }
 {
     let here = line as usize - 1;
     let next = line + 1;
@@ -221,7 +238,10 @@ fn walk(
     passes: &mut [u32],
 ) -> Stop
     requires { ⌜ Startable (now list) (now targets) (now entries) lines from (now values) (now passes) ⌝ }
-    ensures { λ r. ⌜ run-at (now (list .entry)) capacity from (now (values .entry)) (now (passes .entry)) allowed ≡ outcome-of r (now (values .exit)) (now (passes .exit)) ⌝ }
+    ensures { λ r. ⌜
+        run-at (now (list .entry)) capacity from (now (values .entry)) (now (passes .entry)) allowed
+        ≡ outcome-of r (now (values .exit)) (now (passes .exit))
+        ⌝ }
 {
     let last = lines as u32;
     let mut line = from;
@@ -258,6 +278,7 @@ fn is_good_value(v: u32, i: usize, capacity: u32, variables: usize) -> bool
     if i < variables { v <= capacity } else { v == 0 }
 }
 
+// Rule 9, of every value.
 fn are_values(values: &[u32], capacity: u32, variables: usize) -> bool
     requires { ⌜ length (now values) ≡ 32 ⌝ }
     ensures { λ r. ⌜ r ≡ all-values capacity variables (now (values .entry)) ⌝ }
@@ -285,6 +306,7 @@ fn is_good_passes(k: u32, d: usize, capacity: u32, depth: usize) -> bool
     k <= capacity
 }
 
+// Rule 9, of every entry of the passes-left.
 fn are_passes(passes: &[u32], capacity: u32, depth: usize) -> bool
     requires { ⌜ length (now passes) ≡ 16 ⌝ }
     ensures { λ r. ⌜ r ≡ all-passes capacity depth (now (passes .entry)) ⌝ }
@@ -316,7 +338,7 @@ fn depth_at(list: &[u8], entries: &[u8], lines: usize, line: usize) -> usize
     }
 }
 
-// Rule 9.
+// Rule 9. An entry of the passes-left is judged by the number of loops around the state's line.
 fn is_source(list: &[u8], entries: &[u8], lines: usize, variables: usize, state: State) -> bool
     requires { ⌜ Given (now list) lines variables × Entered (now list) (now entries) × (lines ≤ length (now entries)) ⌝ }
     ensures { λ r. ⌜ r ≡ is-source (program (now (list .entry))) (source-state state) ⌝ }
@@ -344,6 +366,7 @@ fn is_source(list: &[u8], entries: &[u8], lines: usize, variables: usize, state:
     are_passes(&passes, capacity, depth)
 }
 
+// The lesser of two numbers.
 fn least(a: u32, b: u32) -> u32
     ensures { λ r. ⌜ r ≡ min a b ⌝ }
 {
@@ -362,13 +385,26 @@ fn run_accepted(list: &[u8], lines: usize, variables: usize, state: State, budge
     if !is_source(list, &entries, lines, variables, state) {
         return Run {
             state,
-            ended: Ended::Refused(Refusal { number: 9, place: 0 }),
+            ended: Ended::Refused(Refusal {
+                number: 9,
+                place: 0,
+            }),
         };
     }
     let mut values = state.values;
     let mut passes = state.passes;
     let allowed = least(budget, State::STEPS - state.steps);
-    let stop = walk(list, &targets, &entries, lines, state.capacity, state.line, allowed, &mut values, &mut passes);
+    let stop = walk(
+        list,
+        &targets,
+        &entries,
+        lines,
+        state.capacity,
+        state.line,
+        allowed,
+        &mut values,
+        &mut passes,
+    );
     let end = stop.end;
     Run {
         state: State {

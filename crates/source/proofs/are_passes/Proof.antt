@@ -39,7 +39,8 @@ unfolding all-passes
 returns c =
     let at : _ = c .before .before .before .before in
     let call : _ = c .before .is-good-passes in
-    sym (all-but-one (good (at .before .before)) 16 (at .loop .d) (omega arith) (sym (call .ensures) ∙ not-true (call .result) (c .if1 .taken)))
+    let bad : _ = sym (call .ensures) ∙ not-true (call .result) (c .if1 .taken) in
+    sym (all-but-one (good (at .before .before)) 16 (at .loop .d) (omega arith) bad)
 
 add-d : tie.Need-add-d Inv-loop μ-loop
 add-d c = omega arith
@@ -51,7 +52,8 @@ loop-again : tie.Need-loop-again Inv-loop μ-loop
 loop-again c =
     let at : _ = c .before .before .before .before in
     let call : _ = c .before .is-good-passes in
-    (omega arith, all-one-more (good (at .before .before)) (at .loop .d) (at .loop .inv .1) (sym (call .ensures) ∙ not-false (call .result) (c .if1 .left)))
+    let fine : _ = sym (call .ensures) ∙ not-false (call .result) (c .if1 .left) in
+    (omega arith, all-one-more (good (at .before .before)) (at .loop .d) (at .loop .inv .1) fine)
 
 returns-2 : tie.Need-returns-2 Inv-loop μ-loop
 unfolding all-passes

@@ -1,5 +1,5 @@
--- `fill_entries` fills the entry of every line. The invariant: those of the lines passed are filled, and as many loops are open as are around
--- the next line. Assumes nothing.
+-- `fill_entries` fills the entry of every line. The invariant: those of the lines passed are filled, and as many loops are open as are
+-- around the next line. Assumes nothing.
 use mathlib.Core.Path.{_≡_, refl}
 use mathlib.Core.List.{List}
 use Prim.Native.Nat.{ℕ, _≤_, _<_, _-_}

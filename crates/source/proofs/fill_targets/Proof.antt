@@ -1,6 +1,6 @@
--- `fill_targets` fills the target of every line of a pair. The invariant: the stack has the lines that are open, and the targets of the lines
--- passed are filled but for those. Assumes nothing.
-use mathlib.Core.Path.{_≡_, refl, sym, ap, _∙_}
+-- `fill_targets` fills the target of every line of a pair. The invariant: the stack has the lines that are open, and the targets of the
+-- lines passed are filled but for those. Assumes nothing.
+use mathlib.Core.Path.{_≡_, refl, _∙_}
 use mathlib.Core.Logic.{⊎-elim, inl, inr}
 use mathlib.Core.List.{List}
 use Prim.Native.Nat.{ℕ, _≤_, _<_, _-_, _+_}
@@ -11,8 +11,8 @@ use Rattle.source.specs.Lines.{program, Holds, command-at}
 use Rattle.source.proofs.Program.{few-lines, numbers-length}
 use Rattle.source.proofs.Steps.{first-at, of-kind}
 use Rattle.source.proofs.Targets
-use Rattle.source.proofs.Targets.{Linking, linking-start, linking-end, linking-plain, linking-opens, linking-endloop, linking-endwhile}
-use Rattle.source.proofs.Targets.{plain-line, stack-open, first-before}
+use Rattle.source.proofs.Targets.{Linking, linking-start, linking-end, linking-plain, linking-opens}
+use Rattle.source.proofs.Targets.{linking-endloop, linking-endwhile, plain-line, stack-open, first-before}
 use Rattle.source.proofs.fill_targets.Statement.{statement}
 use Rattle.source.proofs.fill_targets.Tie as tie
 

@@ -1,7 +1,6 @@
 -- `is_source` is rule 9, test by test. Assumes nothing.
-use mathlib.Core.Path.{_≡_, sym, _∙_}
-use mathlib.Core.Bool.{true, false}
-use Prim.Native.Nat.{ℕ, suc, _≤_}
+use mathlib.Core.Path.{sym, _∙_}
+use Prim.Native.Nat.{suc, _≤_}
 use native.Mathlib.Omega.{arith}
 use borrow.Author.Needs.{needs}
 use borrow.Author.Tests.{not-true, not-false}
@@ -48,7 +47,8 @@ add-if4 c =
 returns-4 : tie.Need-returns-4
 returns-4 c =
     let s : tie.Start = start (c .before .before .before .before) in
-    far-line (s .args .list .now) (s .args .state) (c .before .before .before .if1 .left) (c .before .before .if2 .left) (c .before .if3 .left)
+    far-line (s .args .list .now) (s .args .state)
+    (c .before .before .before .if1 .left) (c .before .before .if2 .left) (c .before .if3 .left)
     (omega (arith, s .pre .0 .lines-are, c .if4 .taken))
 
 slice-aggregate-are-values : tie.Need-slice-aggregate-are-values
@@ -80,7 +80,8 @@ returns-6 c =
     let e : tie.Else4 = c .before .before .before .before .before .before .before .before in
     let call : _ = c .before .before .before .before .before .are-values in
     let s : tie.Start = asked e in
-    let good : _ = sym (rw (s .pre .0 .variables-are) at (call .ensures)) ∙ not-false (call .result) (c .before .before .before .before .if5 .left) in
+    let fine : _ = not-false (call .result) (c .before .before .before .before .if5 .left) in
+    let good : _ = sym (rw (s .pre .0 .variables-are) at (call .ensures)) ∙ fine in
     (rw (c .before .before .depth-at .ensures) at (c .are-passes .ensures))
     ∙ good-values (s .args .list .now) (s .args .state)
     (e .before .before .before .if1 .left) (e .before .before .if2 .left) (e .before .if3 .left) (right-line e) good

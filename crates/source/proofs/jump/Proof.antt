@@ -9,7 +9,8 @@ use Rattle.source.proofs.jump.Statement.{statement}
 use Rattle.source.proofs.jump.Tie as tie
 
 abbrev ready : (c : tie.Start)
-    → Ready (c .args .list .now) (c .args .targets .now) (c .args .entries .now) (c .args .line) (c .args .values .now) (c .args .passes .now)
+    → Ready (c .args .list .now) (c .args .targets .now) (c .args .entries .now) (c .args .line)
+    (c .args .values .now) (c .args .passes .now)
 ready c = c .pre .0
 
 sub-here : tie.Need-sub-here

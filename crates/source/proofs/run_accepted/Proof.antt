@@ -1,14 +1,13 @@
--- `run_accepted` hands back what the definitions give: the tables are filled, rule 9 is judged, and the steps that budget and count allow are
--- taken. Assumes nothing.
+-- `run_accepted` hands back what the definitions give: the tables are filled, rule 9 is judged, and the steps that budget and count allow
+-- are taken. Assumes nothing.
 use mathlib.Core.Path.{_≡_, sym, _∙_}
-use mathlib.Core.Bool.{true, false}
 use mathlib.Core.List.{List}
-use Prim.Native.Nat.{ℕ, _+_, _-_, _≤_}
+use Prim.Native.Nat.{ℕ, _≤_}
 use native.Mathlib.Omega.{arith}
 use borrow.Author.Needs.{needs}
 use borrow.Author.Tests.{not-true, not-false}
 use lib.ListN.{length}
-use Rattle.source.specs.Lines.{program, Filled, run-at, outcome-of}
+use Rattle.source.specs.Lines.{Filled, run-at, outcome-of}
 use Rattle.source.proofs.Program.{few-lines}
 use Rattle.source.proofs.Checks.{good-line}
 use Rattle.source.proofs.Counts.{allows}

@@ -1,5 +1,5 @@
 -- `run_list` hands back what the definitions give: the list is checked, and an accepted one is run. Assumes nothing.
-use mathlib.Core.Path.{_≡_, refl, sym, _∙_}
+use mathlib.Core.Path.{sym, _∙_}
 use borrow.Author.Needs.{needs}
 use Rattle.theory.specs.TurnedDown.{read-list}
 use Rattle.source.proofs.Results.{refused-back}

@@ -1,5 +1,5 @@
--- `run_text` hands back what the definitions give: the text is read into a buffer that has room for any program, and an accepted one is run from
--- there. Assumes nothing.
+-- `run_text` hands back what the definitions give: the text is read into a buffer that has room for any program, and an accepted one is
+-- run from there. Assumes nothing.
 use mathlib.Core.Path.{_≡_, refl, sym, ap, _∙_}
 use mathlib.Core.List.{List}
 use Prim.Native.Nat.{ℕ, _*_, _≤_}

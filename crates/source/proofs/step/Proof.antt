@@ -1,10 +1,8 @@
 -- `step` makes the step at a line: each way at a plain line cites the law of its kind, and `jump` makes the others. Assumes nothing.
-use Prim.Native.Nat.{ℕ, _<_, _-_}
 use native.Mathlib.Omega.{arith}
 use borrow.Author.Needs.{needs}
-use Rattle.source.specs.Lines.{Ready}
 use Rattle.source.proofs.Bounds.{few, numbers-in, first-in, second-in, pair-line}
-use Rattle.source.proofs.Steps.{kind-at, first-at, clears, counts, counts-full, copies, copies-full}
+use Rattle.source.proofs.Steps.{clears, counts, counts-full, copies, copies-full}
 use Rattle.source.proofs.step.Statement.{statement}
 use Rattle.source.proofs.step.Tie as tie
 

@@ -1,11 +1,10 @@
 -- `walk` runs the program: the invariant is that the run is underway, and every way out cites the law of a run of any machine for its end.
 -- Assumes nothing.
 use mathlib.Core.Path.{_≡_, _∙_, sym}
-use Prim.Native.Nat.{ℕ, _≤_, _<_, _-_}
+use Prim.Native.Nat.{_≤_, _-_}
 use native.Mathlib.Omega.{arith}
-use borrow.Author.Needs.{needs}
 use lib.ListN.{length}
-use Rattle.source.specs.Lines.{program, Startable, run-at}
+use Rattle.source.specs.Lines.{program, run-at}
 use Rattle.source.proofs.Program.{few-lines}
 use Rattle.source.proofs.Underway.{Going, going-start, going-halted, going-spent, going-full, going-on}
 use Rattle.source.proofs.walk.Statement.{statement}
@@ -58,41 +57,54 @@ enum-known-next c = c .match .keys1
 enum-told : tie.Need-enum-told Inv-loop μ-loop
 enum-told c = c .match .keys2
 
+-- After a step: it was made in a turn, with steps left
+module _ (c : tie.After-step Inv-loop μ-loop) where
+  abbrev turn : tie.In-loop Inv-loop μ-loop
+  turn = c .before .before .before .before
+
+  abbrev asked : tie.Start Inv-loop μ-loop
+  asked = start (turn .before)
+
+  some-left : turn .before .loop .taken ≡ asked .args .allowed → ⊥
+  some-left = c .before .before .before .if1 .left
+
+  values-kept : length (c .step .last .1 .1 .1 .1 .1 .0) ≡ length (turn .before .loop .values)
+  values-kept = c .step .kept .1 .1 .1 .1 .1 .0
+
+  passes-kept : length (c .step .last .1 .1 .1 .1 .1 .1 .0) ≡ length (turn .before .loop .passes)
+  passes-kept = c .step .kept .1 .1 .1 .1 .1 .1 .0
+
 same-length-3 : tie.Need-same-length-3 Inv-loop μ-loop
 same-length-3 c =
-    let t : tie.In-loop Inv-loop μ-loop = c .before .before .before .before .before .before .before .before .before .before in
-    c .before .before .before .before .before .before .step .kept .1 .1 .1 .1 .1 .0 ∙ (t .before .loop .inv .values-are ∙ sym (start (t .before) .pre .values-are))
+    let s : tie.After-step Inv-loop μ-loop = c .before .before .before .before .before .before in
+    values-kept s ∙ (turn s .before .loop .inv .values-are ∙ sym (asked s .pre .values-are))
 
 same-length-4 : tie.Need-same-length-4 Inv-loop μ-loop
 same-length-4 c =
-    let t : tie.In-loop Inv-loop μ-loop = c .before .before .before .before .before .before .before .before .before .before in
-    c .before .before .before .before .before .before .step .kept .1 .1 .1 .1 .1 .1 .0 ∙ (t .before .loop .inv .passes-are ∙ sym (start (t .before) .pre .passes-are))
+    let s : tie.After-step Inv-loop μ-loop = c .before .before .before .before .before .before in
+    passes-kept s ∙ (turn s .before .loop .inv .passes-are ∙ sym (asked s .pre .passes-are))
 
 returns-2 : tie.Need-returns-2 Inv-loop μ-loop
 returns-2 c =
-    let t : tie.In-loop Inv-loop μ-loop = c .before .before .before .before .before .before .before .before .before .before in
-    let call : _ = c .before .before .before .before .before .before .step in
-    let left : _ = c .before .before .before .before .before .before .before .before .before .if1 .left in
-    going-full _ _ _ _ _ _ _ _ (t .before .loop .inv) (here t) left (start (t .before) .fits .allowed .fits) _ _
-    (rw (c .enum-told .given .1) at (call .ensures))
+    let s : tie.After-step Inv-loop μ-loop = c .before .before .before .before .before .before in
+    going-full _ _ _ _ _ _ _ _ (turn s .before .loop .inv) (here (turn s)) (some-left s) (asked s .fits .allowed .fits) _ _
+    (rw (c .enum-told .given .1) at (s .step .ensures))
 
 add-taken : tie.Need-add-taken Inv-loop μ-loop
 add-taken c =
-    let t : tie.In-loop Inv-loop μ-loop = c .before .before .before .before .before .before .before .before .before .before .before in
-    omega (arith, t .before .loop .inv .enough, c .before .before .before .before .before .before .before .before .before .before .if1 .left, start (t .before) .fits)
+    let s : tie.After-step Inv-loop μ-loop = c .before .before .before .before .before .before .before in
+    omega (arith, turn s .before .loop .inv .enough, some-left s, asked s .fits)
 
 loop-less : tie.Need-loop-less Inv-loop μ-loop
 loop-less c =
-    let t : tie.In-loop Inv-loop μ-loop = c .before .before .before .before .before .before .before .before .before .before .before in
-    omega (arith, t .before .loop .inv .enough, c .before .before .before .before .before .before .before .before .before .before .if1 .left)
+    let s : tie.After-step Inv-loop μ-loop = c .before .before .before .before .before .before .before in
+    omega (arith, turn s .before .loop .inv .enough, some-left s)
 
 loop-again : tie.Need-loop-again Inv-loop μ-loop
 loop-again c =
-    let t : tie.In-loop Inv-loop μ-loop = c .before .before .before .before .before .before .before .before .before .before .before in
-    let call : _ = c .before .before .before .before .before .before .before .step in
-    let left : _ = c .before .before .before .before .before .before .before .before .before .before .if1 .left in
-    going-on _ _ _ _ _ _ _ _ (t .before .loop .inv) (here t) left (start (t .before) .fits .allowed .fits) _ _ _
-    (rw (c .before .next .given .1) at (call .ensures)) (call .kept .1 .1 .1 .1 .1 .0) (call .kept .1 .1 .1 .1 .1 .1 .0)
+    let s : tie.After-step Inv-loop μ-loop = c .before .before .before .before .before .before .before in
+    going-on _ _ _ _ _ _ _ _ (turn s .before .loop .inv) (here (turn s)) (some-left s) (asked s .fits .allowed .fits) _ _ _
+    (rw (c .before .next .given .1) at (s .step .ensures)) (values-kept s) (passes-kept s)
 
 same-length-5 : tie.Need-same-length-5 Inv-loop μ-loop
 same-length-5 c = c .before .loop .inv .values-are ∙ sym (start (c .before) .pre .values-are)
