@@ -96,15 +96,13 @@ module _ (list : List ℕ) (count K d at : ℕ) (s : Site list count K d at) (g 
   module _ (p : PairHere list count K d at s g l) (n : ℕ) (m : n ≡ deeper (kind-of (l .kind)) d) (body : Extent)
       (c : Counts K n (at + 1) (block-at list (at + 1)) body) where
     -- The instructions of the body
-    inner : List Instruction
+    abbrev pub inner : List Instruction
     inner = code K n (block-at list (at + 1))
 
-    pair-code : code K d (first (block-at list at)) ≡ before K d l body ++ (inner ++ after K d l body)
-    unfolding inner
+    pub pair-code : code K d (first (block-at list at)) ≡ before K d l body ++ (inner ++ after K d l body)
     pair-code = rw (c .instructions, m) (p .code)
 
-    pair-weight : weight (code K d (first (block-at list at))) ≡ weight (before K d l body) + body .symbols + weight (after K d l body)
-    unfolding inner
+    pub pair-weight : weight (code K d (first (block-at list at))) ≡ weight (before K d l body) + body .symbols + weight (after K d l body)
     pair-weight =
         let b : List Instruction = before K d l body in
         let a : List Instruction = after K d l body in
@@ -126,7 +124,6 @@ module _ (list : List ℕ) (count K d at : ℕ) (s : Site list count K d at) (g 
         )
 
     pub pair-counts : (e : Extent) → Around K d l body e → Counts K d at (first (block-at list at)) e
-    unfolding inner
     pair-counts e a =
         let b : List Instruction = before K d l body in
         let f : List Instruction = after K d l body in

@@ -1,4 +1,6 @@
 pub mod Counting
+pub mod Puts
 pub mod Sites
 pub mod Tables
 pub mod Walks
+pub mod Written

@@ -44,8 +44,11 @@ entry-at p i = record { kind = getD (p .kinds) i 0; operand = getD (p .operands)
 pub table-from : (p : Piece) (i : ℕ) → i < p .count → drop i (table p) ≡ entry-at p i ∷ drop (i + 1) (table p)
 table-from p i h = rw (add-one i) (entries-from (p .count) i (p .kinds) (p .operands) h)
 
-pub table-ends : (p : Piece) (i : ℕ) → p .count ≤ i → drop i (table p) ≡ []
-table-ends p i h = drop-of-length-le (table p) {i = i} (omega (arith, entries-length (p .count) (p .kinds) (p .operands)))
+pub table-length : (p : Piece) → length (table p) ≡ p .count
+table-length p = entries-length (p .count) (p .kinds) (p .operands)
+
+table-ends : (p : Piece) (i : ℕ) → p .count ≤ i → drop i (table p) ≡ []
+table-ends p i h = drop-of-length-le (table p) {i = i} (omega (arith, table-length p))
 
 pub total-from : (p : Piece) (i : ℕ) → i < p .count
     → total (drop i (table p)) ≡ getD (p .operands) i 0 + getD (p .kinds) i 0 + total (drop (i + 1) (table p))

@@ -7,8 +7,9 @@ use lib.ListN.{length, drop}
 use lib.Seq.{sets}
 use Rattle.theory.specs.Limits
 use Rattle.theory.specs.Basics.{present}
+use Rattle.theory.specs.Text.{Bytes}
 use Rattle.theory.specs.ProgramText.{Command, variables, listed, Block, end, line, pair, lines, blocks}
-use Rattle.theory.specs.Word.{Instruction, table-of, spell, bytes-of}
+use Rattle.theory.specs.Word.{Instruction, Entry, table-of, spell-entries, bytes-of}
 use Rattle.theory.specs.Translation.{before-body, after-body, code}
 use Rattle.theory.specs.TurnedDown.{done, read-list, total}
 use Rattle.theory.proofs.Nesting.{nest}
@@ -93,6 +94,10 @@ module _ (K d : ℕ) (l : Line) (body : Extent) where
     pub symbols : e .symbols ≡ weight before + body .symbols + weight after
     pub ended : e .next ≡ body .next + 1
 
+-- The text of some entries: each its operand times 1, and then its kind times #
+abbrev pub text : List Entry → Bytes
+text t = bytes-of (spell-entries t)
+
 -- A text was written from a place on, and ends before another
 pub record Put (text : List ℕ) (place : ℕ) (before after : List ℕ) (end : ℕ) : Type 0 where
   pub ended : end ≡ place + length text
@@ -100,5 +105,9 @@ pub record Put (text : List ℕ) (place : ℕ) (before after : List ℕ) (end : 
 
 -- Some instructions were written, up to a line
 pub record Wrote (w : List Instruction) (next place : ℕ) (before after : List ℕ) (s : Spot) : Type 0 where
-  pub put : Put (bytes-of (spell w)) place before after (s .place)
+  pub put : Put (text (table-of w)) place before after (s .place)
   pub ended : s .next ≡ next
+
+-- So was the code of a block that begins at line `at`, inside d loops
+abbrev pub Writes : ℕ → ℕ → ℕ → Block → ℕ → List ℕ → List ℕ → Spot → Type 0
+Writes K d at b place before after s = Wrote (code K d b) (at + length (lines b)) place before after s
