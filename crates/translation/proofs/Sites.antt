@@ -22,7 +22,7 @@ use Rattle.theory.proofs.Sizes.{code-length, code-weight}
 use Rattle.theory.proofs.Lists.{lists-round-trip}
 use Rattle.translation.specs.Pieces.{numbers-at, Says}
 use Rattle.translation.specs.declared.lines.Line.{Line}
-use Rattle.translation.specs.Sites.{program, block-at, goes-on, first, rest, Accepts, Site, weight}
+use Rattle.translation.specs.Sites.{program-of, block-at, goes-on, first, rest, Accepts, Site, weight}
 
 -- An accepted list has three numbers a line
 
@@ -41,7 +41,7 @@ three (closes loop i) = record { kind = 5; index = i; source = 0; are = refl }
 three (opens while i) = record { kind = 6; index = i; source = 0; are = refl }
 three (closes while i) = record { kind = 7; index = i; source = 0; are = refl }
 
-list-length : (p : List Command) → length (list-of p) ≡ 3 * length p
+pub list-length : (p : List Command) → length (list-of p) ≡ 3 * length p
 unfolding list-of
 list-length [] = refl
 list-length (c ∷ p) = rw (three c .are) (omega (arith, list-length p))
@@ -55,22 +55,22 @@ list-drop (suc n) (c ∷ p) =
     rw (three c .are, m) (list-drop n p)
 
 module _ (list : List ℕ) (count : ℕ) (a : Accepts list count) where
-  written : list-of (program list) ≡ list
-  written = lists-round-trip .1 list (program list) (a .read)
+  written : list-of (program-of list) ≡ list
+  written = lists-round-trip .1 list (program-of list) (a .read)
 
-  pub accepted : Accepted (program list)
-  accepted = reads-accepted .1 list (program list) (a .read)
+  pub accepted : Accepted (program-of list)
+  accepted = reads-accepted .1 list (program-of list) (a .read)
 
   pub numbers-count : length list ≡ 3 * count
-  numbers-count = ap length (sym written) ∙ (list-length (program list) ∙ ap (λ n. 3 * n) (sym (a .counts)))
+  numbers-count = ap length (sym written) ∙ (list-length (program-of list) ∙ ap (λ n. 3 * n) (sym (a .counts)))
 
   -- The numbers at a line are those of the command that stands there
-  pub numbers-of-line : (at : ℕ) (c : Command) (p : List Command) → drop at (program list) ≡ c ∷ p → Says (numbers-at list at) c
+  pub numbers-of-line : (at : ℕ) (c : Command) (p : List Command) → drop at (program-of list) ≡ c ∷ p → Says (numbers-at list at) c
   unfolding list-of
   numbers-of-line at c p e =
       let t : Three c = three c in
       let from : drop (3 * at) list ≡ t .kind ∷ t .index ∷ t .source ∷ list-of p =
-      ap (drop (3 * at)) (sym written) ∙ (list-drop at (program list) ∙ (ap list-of e ∙ ap (λ r. r ++ list-of p) (t .are))) in
+      ap (drop (3 * at)) (sym written) ∙ (list-drop at (program-of list) ∙ (ap list-of e ∙ ap (λ r. r ++ list-of p) (t .are))) in
       let number : (i : ℕ) → getD list (3 * at + i) 0 ≡ getD (t .kind ∷ t .index ∷ t .source ∷ list-of p) i 0 =
       λ i. sym (getD-drop (3 * at) list i 0) ∙ ap (λ l. getD l i 0) from in
       let k : getD list (3 * at) 0 ≡ t .kind = rw add-zero at (number 0) in
@@ -89,7 +89,7 @@ blocks-begin (pair k i body b) q e =
     ∙ (blocks-begin body q′ refl
     ∙ ap {B = Blocks} (λ r. record { first = body; later = r .first ∷ r .later }) (blocks-begin b q e)))
 
-block-begins : (list : List ℕ) (at : ℕ) (b : Block) (q : List Command) → blocks q .first ≡ end → drop at (program list) ≡ lines b ++ q
+block-begins : (list : List ℕ) (at : ℕ) (b : Block) (q : List Command) → blocks q .first ≡ end → drop at (program-of list) ≡ lines b ++ q
     → block-at list at ≡ b
 unfolding block-at
 block-begins list at b q e h = ap (λ l. blocks l .first) h ∙ ap (λ r. r .first) (blocks-begin b q e)
@@ -99,13 +99,13 @@ block-begins list at b q e h = ap (λ l. blocks l .first) h ∙ ap (λ r. r .fir
 record Standing (list : List ℕ) (at : ℕ) : Type 0 where
   command : Command
   after : List Command
-  here : drop at (program list) ≡ command ∷ after
+  here : drop at (program-of list) ≡ command ∷ after
 
 standing : (list : List ℕ) (count at : ℕ) → Accepts list count → at < count → Standing list at
-standing list count at a h = go (drop at (program list)) refl
+standing list count at a h = go (drop at (program-of list)) refl
   where
-    go : (l : List Command) → drop at (program list) ≡ l → Standing list at
-    go [] e = absurd (omega (arith, a .counts, length-drop at (program list), ap length e))
+    go : (l : List Command) → drop at (program-of list) ≡ l → Standing list at
+    go [] e = absurd (omega (arith, a .counts, length-drop at (program-of list), ap length e))
     go (c ∷ p) e = record { command = c; after = p; here = e }
 
 opened-goes-on : (k : Kind) (i : ℕ) (b : Block) (bs : List Block) → goes-on (opened-by k i b bs .first) ≡ true
@@ -157,7 +157,7 @@ module _ (list : List ℕ) (count at : ℕ) (a : Accepts list count) where
   pub begins-end : count ≤ at → false ≡ goes-on (block-at list at)
   unfolding block-at blocks
   begins-end h =
-      let none : drop at (program list) ≡ [] = drop-of-length-le (program list) {i = at} (omega (arith, a .counts)) in
+      let none : drop at (program-of list) ≡ [] = drop-of-length-le (program-of list) {i = at} (omega (arith, a .counts)) in
       sym (ap (λ l. goes-on (blocks l .first)) none)
 
 -- The rest of a block, and a pair's body
@@ -182,8 +182,8 @@ pub record Stands (list : List ℕ) (count K d at : ℕ) (b : Block) : Type 0 wh
   pub block : block-at list at ≡ b
 
 module _ (list : List ℕ) (count K : ℕ) where
-  stands : (d at : ℕ) (b : Block) (later : List Command) → Accepts list count → K ≡ variables (program list) → at ≤ count
-      → drop at (program list) ≡ lines b ++ later → blocks later .first ≡ end → d + nest b ≤ Limits.most-open → Stands list count K d at b
+  stands : (d at : ℕ) (b : Block) (later : List Command) → Accepts list count → K ≡ variables (program-of list) → at ≤ count
+      → drop at (program-of list) ≡ lines b ++ later → blocks later .first ≡ end → d + nest b ≤ Limits.most-open → Stands list count K d at b
   stands d at b later a n w h s r =
       let e : block-at list at ≡ b = block-begins list at b later s h in
       record {
@@ -197,15 +197,15 @@ module _ (list : List ℕ) (count K : ℕ) where
         arith,
         s .within,
         s .accepts .counts,
-        length-drop at (program list),
+        length-drop at (program-of list),
         ap length (s .split),
         length-append (lines (block-at list at)) (s .later),
       )
 
-  pub whole-site : Accepts list count → K ≡ variables (program list) → Stands list count K 0 0 (block-of (program list))
+  pub whole-site : Accepts list count → K ≡ variables (program-of list) → Stands list count K 0 0 (block-of (program-of list))
   unfolding blocks
   whole-site a n =
-      let p : List Command = program list in
+      let p : List Command = program-of list in
       let ok : Accepted p = accepted list count a in
       let e : p ≡ lines (block-of p) ++ [] = sym (append-nil (lines (block-of p)) ∙ well-nested p ok) in
       stands 0 0 (block-of p) [] a n (omega arith) e refl (omega (arith, shallow p ok))
@@ -215,11 +215,11 @@ module _ (list : List ℕ) (count K : ℕ) where
   unfolding blocks
   body-site d at s k i body b e =
       let q : List Command = closes k i ∷ (lines b ++ s .later) in
-      let here : drop at (program list) ≡ opens k i ∷ (lines body ++ q) =
+      let here : drop at (program-of list) ≡ opens k i ∷ (lines body ++ q) =
       s .split ∙ (ap (λ x. lines x ++ s .later) e ∙ ap {B = List Command} (λ l. opens k i ∷ l) (append-assoc (lines body) _ _)) in
       let below : at + 1 ≤ count = omega (arith, ends d at s, ap (λ x. length (lines x)) e) in
       let room : d + nest (pair k i body b) ≤ 16 = rw e at (s .room) in
-      stands (deeper k d) (at + 1) body q (s .accepts) (s .names) below (sym (drop-drop 1 at (program list)) ∙ ap (drop 1) here) refl
+      stands (deeper k d) (at + 1) body q (s .accepts) (s .names) below (sym (drop-drop 1 at (program-of list)) ∙ ap (drop 1) here) refl
       (nest-body k d i body b room)
 
   pub rest-site : (d at n : ℕ) → Site list count K d at → n ≡ at + length (lines (first (block-at list at)))
@@ -227,10 +227,10 @@ module _ (list : List ℕ) (count K : ℕ) where
   rest-site d at n s e =
       let b : Block = block-at list at in
       let f : List Command = lines (first b) in
-      let here : drop at (program list) ≡ f ++ (lines (rest b) ++ s .later) =
+      let here : drop at (program-of list) ≡ f ++ (lines (rest b) ++ s .later) =
       s .split ∙ (ap (λ l. l ++ s .later) (lines-first b) ∙ append-assoc f _ _) in
-      let there : drop (at + length f) (program list) ≡ lines (rest b) ++ s .later =
-      sym (drop-drop (length f) at (program list)) ∙ (ap (drop (length f)) here ∙ drop-append-seam f _) in
+      let there : drop (at + length f) (program-of list) ≡ lines (rest b) ++ s .later =
+      sym (drop-drop (length f) at (program-of list)) ∙ (ap (drop (length f)) here ∙ drop-append-seam f _) in
       let l : length (lines b) ≡ length f + length (lines (rest b)) = ap length (lines-first b) ∙ length-append f _ in
       rw e (stands d (at + length f) (rest b) (s .later) (s .accepts) (s .names) (omega (arith, ends d at s)) there (s .stops)
       (omega (arith, s .room, nest-rest b)))
@@ -257,7 +257,7 @@ pub record Bounds (list : List ℕ) (count K d at : ℕ) : Type 0 where
 
 pub bounds : (list : List ℕ) (count K d at : ℕ) → Site list count K d at → Bounds list count K d at
 bounds list count K d at s =
-    let p : List Command = program list in
+    let p : List Command = program-of list in
     let b : Block = block-at list at in
     let ok : Accepted p = accepted list count (s .accepts) in
     let few : count ≤ 512 = omega (arith, s .accepts .counts, short p ok) in

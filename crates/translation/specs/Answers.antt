@@ -1,10 +1,11 @@
 -- What the entries of this crate hand back: the answers of document 01, with their numbers and places, as values of the crate's types.
+use mathlib.Core.Path.{_≡_}
 use mathlib.Core.List.{List}
 use Prim.Native.Nat.{ℕ}
 use lib.ListN.{length}
 use Rattle.theory.specs.ProgramText.{Command}
 use Rattle.theory.specs.Translation.{word-of, word-text}
-use Rattle.theory.specs.TurnedDown.{Answer, done, refused, answer, after, rule-19}
+use Rattle.theory.specs.TurnedDown.{Answer, done, refused, answer, after, mapped, rule-19, lent-after}
 use Rattle.translation.specs.declared.Size.{Size}
 use Rattle.translation.specs.declared.Translated.{Translated}
 use Rattle.translation.specs.declared.Translated.the-variants as T
@@ -19,3 +20,8 @@ translate-into lent A = after A λ p. answer (rule-19 lent (word-text p)) p
 abbrev pub translated : Answer (List Command) → Translated
 translated (done p) = T.Done (size-of p)
 translated (refused r) = T.Refused r
+
+-- Both the answer and the output, of a program handed in as A
+pub record Answered (A : Answer (List Command)) (entry exit : List ℕ) (r : Translated) : Type 0 where
+  pub answers : r ≡ translated (translate-into entry A)
+  pub output : exit ≡ lent-after entry (mapped word-text (translate-into entry A))

@@ -19,11 +19,11 @@ use Rattle.translation.specs.declared.sizes.Extent.{Extent}
 use Rattle.translation.specs.declared.writing.Spot.{Spot}
 
 -- The program of a list, and the block that begins at its line n, from 0
-unfoldable pub program : List ℕ → List Command
-program list = present (listed list)
+unfoldable pub program-of : List ℕ → List Command
+program-of list = present (listed list)
 
 unfoldable pub block-at : List ℕ → ℕ → Block
-block-at list n = blocks (drop n (program list)) .first
+block-at list n = blocks (drop n (program-of list)) .first
 
 -- Whether a block has a first line or pair; that alone; and what follows it
 abbrev pub goes-on : Block → Bool
@@ -43,16 +43,21 @@ rest (pair k i body b) = b
 
 -- An accepted list of so many lines
 pub record Accepts (list : List ℕ) (count : ℕ) : Type 0 where
-  pub read : read-list list ≡ done (program list)
-  pub counts : count ≡ length (program list)
+  pub read : read-list list ≡ done (program-of list)
+  pub counts : count ≡ length (program-of list)
+
+-- And of so many variables
+pub record Known (list : List ℕ) (count K : ℕ) : Type 0 where
+  pub accepts : Accepts list count
+  pub names : K ≡ variables (program-of list)
 
 -- A block of such a list begins at line `at`, inside d loops, in a program of K variables. After it the list ends or a pair closes
 pub record Site (list : List ℕ) (count K d at : ℕ) : Type 0 where
   pub accepts : Accepts list count
-  pub names : K ≡ variables (program list)
+  pub names : K ≡ variables (program-of list)
   pub within : at ≤ count
   pub later : List Command
-  pub split : drop at (program list) ≡ lines (block-at list at) ++ later
+  pub split : drop at (program-of list) ≡ lines (block-at list at) ++ later
   pub stops : blocks later .first ≡ end
   pub room : d + nest (block-at list at) ≤ Limits.most-open
 

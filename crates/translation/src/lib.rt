@@ -5,7 +5,15 @@ mod pieces;
 mod sizes;
 mod writing;
 
+use program::Checked;
 use theory::Refusal;
+ghost use mathlib.Core.Path.{_≡_};
+ghost use Prim.Native.Nat.{_≤_};
+ghost use lib.ListN.{length};
+ghost use Rattle.theory.specs.Translation.{word-text};
+ghost use Rattle.theory.specs.TurnedDown.{done, mapped, read-list, read-text, lent-after};
+ghost use Rattle.translation.specs.Answers.{size-of, translate-into, translated, Answered};
+ghost use Rattle.translation.specs.Sites.{program-of, Known};
 
 // The size of a word: its symbols and its instructions.
 pub struct Size {
@@ -17,4 +25,62 @@ pub struct Size {
 pub enum Translated {
     Done(Size),
     Refused(Refusal),
+}
+
+// The size of the word of an accepted list: F1, and the program's block.
+fn word_size(list: &[u8], lines: usize, variables: usize) -> Size
+    requires { ⌜ Known (now list) lines variables ⌝ }
+    ensures { λ r. ⌜ r ≡ size-of (program-of (now (list .entry))) ⌝ }
+{
+    let block = sizes::block_size(list, lines, variables, 0, 0);
+    Size { symbols: 4 + block.symbols, instructions: 1 + block.instructions }
+}
+
+// The word of an accepted list, at the start of an output that has room for it.
+fn put_word(list: &[u8], lines: usize, variables: usize, out: &mut [u8])
+    requires { ⌜ Known (now list) lines variables × (length (word-text (program-of (now list))) ≤ length (now out)) ⌝ }
+    ensures { λ _. ⌜ now (out .exit) ≡ lent-after (now (out .entry)) (done (word-text (program-of (now (list .entry))))) ⌝ }
+{
+    let place = writing::put_instruction(&mut *out, 0, 1, 3);
+    writing::put_block(list, lines, variables, 0, 0, &mut *out, place);
+}
+
+// Rule 19, and the word.
+fn translate_accepted(list: &[u8], lines: usize, variables: usize, out: &mut [u8]) -> Translated
+    requires { ⌜ Known (now list) lines variables ⌝ }
+    ensures { λ r. ⌜ Answered (read-list (now (list .entry))) (now (out .entry)) (now (out .exit)) r ⌝ }
+{
+    let size = word_size(list, lines, variables);
+    if out.len() < size.symbols {
+        return Translated::Refused(Refusal { number: 19, place: 0 });
+    }
+    put_word(list, lines, variables, &mut *out);
+    Translated::Done(size)
+}
+
+// A list of three numbers a command: rules 3 to 8, then 19.
+pub fn translate_list(list: &[u8], out: &mut [u8]) -> Translated
+    ensures { λ r. ⌜ r ≡ translated (translate-into (now (out .entry)) (read-list (now (list .entry)))) ⌝ }
+    ensures { λ _. ⌜ now (out .exit) ≡ lent-after (now (out .entry)) (mapped word-text (translate-into (now (out .entry)) (read-list (now (list .entry))))) ⌝ }
+{
+    match program::check_list(list) {
+        Checked::Refused(r) => Translated::Refused(r),
+        Checked::Accepted(p) => translate_accepted(list, p.lines, p.variables, &mut *out),
+    }
+}
+
+// A text: rules 1 to 8, then 19.
+pub fn translate_text(text: &[u8], out: &mut [u8]) -> Translated
+    ensures { λ r. ⌜ r ≡ translated (translate-into (now (out .entry)) (read-text (now (text .entry)))) ⌝ }
+    ensures { λ _. ⌜ now (out .exit) ≡ lent-after (now (out .entry)) (mapped word-text (translate-into (now (out .entry)) (read-text (now (text .entry))))) ⌝ }
+{
+    let mut list = [0u8; program::Program::NUMBERS];
+    match program::read(text, &mut list) {
+        Checked::Refused(r) => Translated::Refused(r),
+        Checked::Accepted(p) => {
+            let lines = p.lines;
+            let end = 3 * lines;
+            translate_accepted(&list[..end], lines, p.variables, &mut *out)
+        }
+    }
 }

@@ -1,0 +1,98 @@
+-- The answer and the output of a translation, by what its program was read as.
+use mathlib.Core.Path.{_≡_, refl, sym, _∙_}
+use mathlib.Core.List.{List}
+use Prim.Native.Nat.{ℕ, _*_, _≤_, _<_}
+use native.Mathlib.Omega.{arith}
+use lib.ListN.{length, take, drop}
+use lib.Seq.{take-at}
+use borrow.Author.Tests.{le-leb, lt-leb}
+use Rattle.theory.specs.Text.{Bytes}
+use Rattle.theory.specs.ProgramText.{Command, list-of}
+use Rattle.theory.specs.Translation.{word-text}
+use Rattle.theory.specs.TurnedDown.{Answer, done, refused, mapped, rule-19, read-text, read-list, lent-after}
+use Rattle.theory.specs.declared.Refusal.{Refusal}
+use Rattle.theory.specs.Claims.{Accepted}
+use Rattle.theory.proofs.Nesting.{reads-accepted, short, list-read}
+use Rattle.theory.proofs.Lists.{lists-round-trip}
+use Rattle.program.specs.Answers as P
+use Rattle.program.specs.declared.Program.{Program}
+use Rattle.program.specs.declared.Checked.{Checked}
+use Rattle.program.specs.declared.Checked.the-variants as C
+use Rattle.program.proofs.Replies.{checked-refused, checked-accepted}
+use Rattle.translation.specs.Answers.{size-of, translate-into, Answered}
+use Rattle.translation.specs.Sites.{program-of, Known}
+use Rattle.translation.specs.declared.Size.{Size}
+use Rattle.translation.specs.declared.Translated.the-variants as T
+use Rattle.translation.proofs.Sites.{list-length}
+
+-- It was refused; it has no room; it is written
+pub answered-refused : (A : Answer (List Command)) (r : Refusal) (out : List ℕ) → A ≡ refused r → Answered A out out (T.Refused r)
+unfolding translate-into lent-after
+answered-refused A r out e = record { answers = rw e; output = rw e }
+
+pub answered-short : (A : Answer (List Command)) (p : List Command) (out : List ℕ) → A ≡ done p → length out < length (word-text p)
+    → Answered A out out (T.Refused (record { number = 19; place = 0 }))
+unfolding translate-into lent-after rule-19
+answered-short A p out e h =
+    let t : _ = lt-leb (length (word-text p)) (length out) h in
+    record { answers = rw (e, t); output = rw (e, t) }
+
+pub answered-done : (A : Answer (List Command)) (p : List Command) (out out′ : List ℕ) (s : Size) → A ≡ done p
+    → length (word-text p) ≤ length out → out′ ≡ lent-after out (done (word-text p)) → s ≡ size-of p → Answered A out out′ (T.Done s)
+unfolding translate-into rule-19
+answered-done A p out out′ s e h o z =
+    let t : _ = le-leb (length (word-text p)) (length out) h in
+    record { answers = rw (e, t, z); output = rw (e, t) o }
+
+-- What the check of a list, and the reading of a text into one, tell of the program
+
+pub known : (list : List ℕ) (p : List Command) (q : Program) → read-list list ≡ done p → q ≡ P.program-of p
+    → Known list (q .lines) (q .variables)
+unfolding program-of
+known list p q e f =
+    let same : program-of list ≡ p = list-read list p e .1 in
+    record {
+      accepts = record { read = rw same e; counts = rw (same, f) };
+      names = rw (same, f);
+    }
+
+module _ (t : Bytes) (lent : List ℕ) (room : 1536 ≤ length lent) where
+  fits : (p : List Command) → read-text t ≡ done p → length (list-of p) ≤ length lent
+  fits p e = omega (arith, list-length p, short p (reads-accepted .0 t p e))
+
+  -- A list of 1,536 numbers has room for any program
+  read-as-text : P.read-into lent t ≡ read-text t
+  unfolding P.read-into rule-19
+  read-as-text = go (read-text t) refl
+    where
+      go : (A : Answer (List Command)) → read-text t ≡ A → P.read-into lent t ≡ read-text t
+      go (refused r) e = rw e
+      go (done p) e = rw (e, le-leb (length (list-of p)) (length lent) (fits p e))
+
+  pub unread : {c : Checked} {r : Refusal} → c ≡ P.checked (P.read-into lent t) → c ≡ C.Refused r → read-text t ≡ refused r
+  unread e f = sym read-as-text ∙ checked-refused (P.read-into lent t) e f
+
+  -- What was read, and the part of the list that holds it
+  pub record Taken (q : Program) (list : List ℕ) : Type 0 where
+    pub program : List Command
+    pub text : read-text t ≡ done program
+    pub part : read-list (take (3 * q .lines) list) ≡ done program
+    pub known : Known (take (3 * q .lines) list) (q .lines) (q .variables)
+    pub few : 3 * q .lines ≤ 1536
+
+  taken-of : (p : List Command) (q : Program) (list : List ℕ) → read-text t ≡ done p → q ≡ P.program-of p
+      → list ≡ lent-after lent (mapped list-of (P.read-into lent t)) → Taken q list
+  unfolding lent-after
+  taken-of p q list e f h =
+      let ok : Accepted p = reads-accepted .0 t p e in
+      let l : length (list-of p) ≡ 3 * q .lines = rw f (list-length p) in
+      let part : take (3 * q .lines) list ≡ list-of p =
+      rw (h, read-as-text, e) (take-at (list-of p) (drop (length (list-of p)) lent) (3 * q .lines) l) in
+      let read : read-list (take (3 * q .lines) list) ≡ done p = rw part (lists-round-trip .0 p ok) in
+      record { program = p; text = e; part = read; known = known (take (3 * q .lines) list) p q read f; few = omega (arith, list-length p, short p ok) }
+
+  pub taken : {c : Checked} (q : Program) (list : List ℕ) → c ≡ P.checked (P.read-into lent t) → c ≡ C.Accepted q
+      → list ≡ lent-after lent (mapped list-of (P.read-into lent t)) → Taken q list
+  taken q list e f h =
+      let k : _ = checked-accepted (P.read-into lent t) e f in
+      taken-of (k .0) q list (sym read-as-text ∙ k .1) (k .2) h

@@ -1,0 +1,63 @@
+-- The word of a whole list: F1 and the code of the block that begins at its first line.
+use mathlib.Core.Path.{_≡_, refl, sym, ap, _∙_}
+use mathlib.Core.List.{List, [], _∷_, _++_}
+use Prim.Native.Nat.{ℕ, _+_, _≤_}
+use native.Mathlib.Nat.{zero-add}
+use native.Mathlib.Omega.{arith}
+use lib.ListN.{length, take, drop}
+use lib.Seq.{sets, sets-eq}
+use Rattle.theory.specs.ProgramText.{Command, variables, Block, lines, block-of}
+use Rattle.theory.specs.Word.{Instruction, forward, table-of, spell}
+use Rattle.theory.specs.Translation.{code, word, word-of, word-text}
+use Rattle.theory.specs.TurnedDown.{done, lent-after}
+use Rattle.theory.proofs.Nesting.{well-nested}
+use Rattle.theory.proofs.Sizes.{bytes-length}
+use Rattle.translation.specs.Answers.{size-of}
+use Rattle.translation.specs.Sites.{program-of, block-at, Known, Site, weight, Counts, text, Put, Writes}
+use Rattle.translation.specs.declared.Size.{Size}
+use Rattle.translation.specs.declared.sizes.Extent.{Extent}
+use Rattle.translation.specs.declared.writing.Spot.{Spot}
+use Rattle.translation.proofs.Sites.{accepted, Stands, whole-site, Bounds, bounds}
+use Rattle.translation.proofs.Puts.{put-then, put-length, text-length}
+use Rattle.translation.proofs.Written.{words-append}
+
+module _ (list : List ℕ) (count K : ℕ) (k : Known list count K) where
+  stands : Stands list count K 0 0 (block-of (program-of list))
+  stands = whole-site list count K (k .accepts) (k .names)
+
+  pub site : Site list count K 0 0
+  site = stands .site
+
+  pub small : Bounds list count K 0 0
+  small = bounds list count K 0 0 site
+
+  word-is : word-of (program-of list) ≡ forward 1 ∷ code K 0 (block-at list 0)
+  unfolding word-of word
+  word-is =
+      let p : List Command = program-of list in
+      let K-is : variables (lines (block-of p)) ≡ K = ap variables (well-nested p (accepted list count (k .accepts))) ∙ sym (k .names) in
+      ap {B = List Instruction} (λ w. forward 1 ∷ w) (rw (K-is, stands .block))
+
+  pub word-length : length (word-text (program-of list)) ≡ 4 + weight (code K 0 (block-at list 0))
+  unfolding word-text
+  word-length = bytes-length (word-of (program-of list)) ∙ (ap weight word-is ∙ (omega arith))
+
+  pub size-is : (e : Extent) → Counts K 0 0 (block-at list 0) e
+      → record { symbols = 4 + e .symbols; instructions = 1 + e .instructions } ≡ size-of (program-of list)
+  size-is e c =
+      let s : 4 + e .symbols ≡ length (word-text (program-of list)) = omega (arith, c .symbols, word-length) in
+      let i : 1 + e .instructions ≡ length (word-of (program-of list)) = omega (arith, c .instructions, ap length word-is) in
+      rw (s, i)
+
+  -- Its first instruction and its block's code, written one after the other
+  pub word-put : (out out′ out″ : List ℕ) (place : ℕ) (s : Spot) → length (word-text (program-of list)) ≤ length out
+      → Put (text (record { kind = 3; operand = 1 } ∷ [])) 0 out out′ place → Writes K 0 0 (block-at list 0) place out′ out″ s
+      → out″ ≡ lent-after out (done (word-text (program-of list)))
+  unfolding word-text spell lent-after
+  word-put out out′ out″ place s r f w =
+      let c : List Instruction = code K 0 (block-at list 0) in
+      let T : List ℕ = word-text (program-of list) in
+      let whole : T ≡ text (record { kind = 3; operand = 1 } ∷ []) ++ text (table-of c) =
+      ap (λ u. text (table-of u)) word-is ∙ words-append (forward 1 ∷ []) c in
+      let put : Put T 0 out out″ (s .place) = rw whole (put-then f (w .put)) in
+      put .wrote ∙ (rw zero-add at (sets-eq T out 0 (omega arith)))
