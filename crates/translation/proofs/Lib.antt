@@ -4,8 +4,5 @@ pub mod Puts
 pub mod Sites
 pub mod Tables
 pub mod Walks
-<<<<<<< HEAD
-=======
 pub mod Wholes
->>>>>>> hub/translation
 pub mod Written

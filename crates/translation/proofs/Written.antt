@@ -22,11 +22,7 @@ use Rattle.translation.proofs.Counting.{pair-code, pair-weight, pair-as
 use Rattle.translation.proofs.Puts.{put-nothing, put-then, put-length, text-append, text-length}
 
 -- The text of some instructions, and of more
-<<<<<<< HEAD
-words-append : (u w : List Instruction) → text (table-of (u ++ w)) ≡ text (table-of u) ++ text (table-of w)
-=======
 pub words-append : (u w : List Instruction) → text (table-of (u ++ w)) ≡ text (table-of u) ++ text (table-of w)
->>>>>>> hub/translation
 words-append u w = ap text (L.map-append entry-of u w) ∙ text-append (table-of u) (table-of w)
 
 module _ (list : List ℕ) (count K d at place : ℕ) (start : List ℕ) where
