@@ -1,10 +1,9 @@
 -- What the entries hand back, by what the functions below them found.
 use mathlib.Core.Path.{_≡_, refl, sym, ap, _∙_}
-use mathlib.Core.Bool.{Bool, true, false}
+use mathlib.Core.Bool.{true, false}
 use mathlib.Core.Option.{Option, none, some}
-use mathlib.Core.List.{List, [], _∷_, map}
-use Prim.Native.Nat.{ℕ, zero, suc, _+_, _-_, _≤_, _<_, min}
-use native.Mathlib.Numerals.{add-one}
+use mathlib.Core.List.{List, [], _∷_}
+use Prim.Native.Nat.{ℕ, _+_, _-_, _≤_, _<_, min}
 use native.Mathlib.Omega.{arith}
 use lib.ListN.{length, take, drop, length-take}
 use lib.Dec.{eqb, leb, ltb}
@@ -12,10 +11,10 @@ use borrow.Author.Tests.{eqb-true}
 use Rattle.theory.specs.Basics.{all}
 use Rattle.theory.specs.Text.{Bytes, split-lines, ends-in-LF}
 use Rattle.theory.specs.ProgramText.{above}
-use Rattle.theory.specs.RunSheet.{names, values, distinct}
+use Rattle.theory.specs.RunSheet.{names, values}
 use Rattle.theory.specs.TurnedDown.{unless, names-fault, values-fault, rows-fault, names-of, sheet-size-fault, sheet-fault}
 use Rattle.theory.specs.declared.Refusal.{Refusal}
-use Rattle.theory.proofs.Faults.{none-first, none-second, unless-none, and-first, and-second}
+use Rattle.theory.proofs.Faults.{none-first, none-second, unless-none, and-first}
 use Rattle.sheet.specs.declared.answers.Names.{Names}
 use Rattle.sheet.specs.declared.answers.Row.{Row}
 use Rattle.sheet.specs.declared.answers.Sheet.{Sheet}
@@ -43,7 +42,7 @@ row-values capacity count n (some vs) cs h e =
     rw (kept-all (capacity + 1) vs (at-most capacity vs ∙ below), ← size, padded-take vs (omega arith))
 
 -- The columns are as many as the code takes
-pub columns-count : (names : Names) → length (names .columns) ≡ 32 → length (columns-of names) ≡ min (names .count) 32
+columns-count : (names : Names) → length (names .columns) ≡ 32 → length (columns-of names) ≡ min (names .count) 32
 columns-count names e = rw length-take (omega arith)
 
 row-same : {vs ws : List ℕ} {m n : ℕ} {f : Fault} → vs ≡ ws → m ≡ n
@@ -101,7 +100,8 @@ module _ (s : Bytes) (capacity K : ℕ) (sized : is-sheet-size s ≡ true) where
   unfolding rest
   lines = lines-next s 0 (sized-some s sized)
 
-  pub sheet-names-refused : (r : Refusal) → names-fault K (names (line-at s 0)) ≡ some r → checked-as (some r) [] 0 ≡ sheet-answer capacity K s
+  pub sheet-names-refused : (r : Refusal) → names-fault K (names (line-at s 0)) ≡ some r
+      → checked-as (some r) [] 0 ≡ sheet-answer capacity K s
   unfolding is-sheet-size sheet-answer sheet-fault sheet-size-fault
   sheet-names-refused r e = rw (sized, lines, e)
 
@@ -120,12 +120,14 @@ module _ (s : Bytes) (capacity K : ℕ) (sized : is-sheet-size s ≡ true) where
     rows-passed (some q) m k e = (cc, cc)
 
     pub sheet-rows-refused : (count : ℕ) (r : Refusal) → count ≡ line-of K (names (line-at s 0)) .count
-        → C.Refused r ≡ rows-as capacity count (split-lines (drop (after-line s 0) s)) → checked-as (some r) [] 0 ≡ sheet-answer capacity K s
+        → C.Refused r ≡ rows-as capacity count (split-lines (drop (after-line s 0) s))
+        → checked-as (some r) [] 0 ≡ sheet-answer capacity K s
     unfolding is-sheet-size sheet-answer sheet-fault sheet-size-fault rows-as line-of rest
     sheet-rows-refused count r c e =
         let k : _ = kept-names (names (line-at s 0)) passed in
         let size : count ≡ length (k .0) = rw (k .1) at c in
-        let faulty : rows-fault capacity (length (k .0)) 2 rest ≡ some r = rw size at (rows-faulty (rows-fault capacity count 2 rest) (length rest) r e) in
+        let found : rows-fault capacity count 2 rest ≡ some r = rows-faulty (rows-fault capacity count 2 rest) (length rest) r e in
+        let faulty : rows-fault capacity (length (k .0)) 2 rest ≡ some r = rw size at found in
         rw (sized, lines, passed, names-some (line-at s 0) rest (k .0) (k .1), faulty)
 
     pub sheet-done : (count rows : ℕ) (columns : List ℕ) → count ≡ line-of K (names (line-at s 0)) .count

@@ -1,13 +1,13 @@
 -- Names that differ from each other: seen from the last, and no more of them than there are variables.
 use mathlib.Core.Path.{_≡_, refl, sym, ap, _∙_}
-use mathlib.Core.Bool.{Bool, true, false, cond, not, _&&_, _||_}
+use mathlib.Core.Bool.{Bool, true, false, cond, not, _&&_}
 use mathlib.Core.List.{List, [], _∷_}
-use Prim.Native.Nat.{ℕ, zero, suc, _+_, _-_, _≤_, _<_}
+use Prim.Native.Nat.{ℕ, zero, suc, _-_, _≤_, _<_}
 use native.Mathlib.Omega.{arith}
-use lib.ListN.{length, take, drop, getD, set, replicate, length-set, getD-replicate, drop-of-length-le}
+use lib.ListN.{length, drop, getD, set, replicate, length-set, getD-replicate, drop-of-length-le}
 use lib.Seq.{getD-set-same, getD-set-other}
 use lib.Dec.{eqb, ltb}
-use borrow.Author.Tests.{ltb-true, lt-ltb, eqb-true, eqb-false, eq-eqb, ne-eqb, not-true}
+use borrow.Author.Tests.{ltb-true, lt-ltb, eqb-true, eqb-false, ne-eqb, not-true}
 use Rattle.theory.specs.Basics.{all}
 use Rattle.theory.specs.RunSheet.{occurs, distinct}
 use Rattle.theory.proofs.Faults.{and-first, and-second, or-first, or-second}
@@ -41,30 +41,33 @@ seen-start l k e =
     }
 
 -- One place nearer to the front, where x stands
-module _ (l : List ℕ) (k : ℕ) (seen : List Bool) (s : Seen l k seen) (h : 0 < k) (x : ℕ) (stands : getD l (k - 1) 0 ≡ x) (low : x < 32) where
-  here : drop (k - 1) l ≡ x ∷ drop k l
-  here = rw stands at (drop-back l k h (s .reached))
+module _
+    (l : List ℕ) (k : ℕ) (seen : List Bool) (s : Seen l k seen) (h : 0 < k)
+    (x : ℕ) (stands : getD l (k - 1) 0 ≡ x) (low : x < 32)
+  where
+    here : drop (k - 1) l ≡ x ∷ drop k l
+    here = rw stands at (drop-back l k h (s .reached))
 
-  pub seen-again : getD seen x false ≡ true → distinct l ≡ false
-  seen-again g =
-      let twice : occurs x (drop k l) ≡ true = sym (s .marked x low) ∙ g in
-      distinct-drop (k - 1) l (rw (here, twice))
+    pub seen-again : getD seen x false ≡ true → distinct l ≡ false
+    seen-again g =
+        let twice : occurs x (drop k l) ≡ true = sym (s .marked x low) ∙ g in
+        distinct-drop (k - 1) l (rw (here, twice))
 
-  pub seen-next : getD seen x false ≡ false → Seen l (k - 1) (set seen x true)
-  seen-next g =
-      let once : occurs x (drop k l) ≡ false = sym (s .marked x low) ∙ g in
-      record {
-        reached = omega (arith, s .reached);
-        size = length-set seen x true ∙ s .size;
-        marked = λ i b. mark i b (eqb i x) refl;
-        differ = rw (here, once) (s .differ);
-      }
-    where
-      mark : (i : ℕ) → i < 32 → (b : Bool) → eqb i x ≡ b → getD (set seen x true) i false ≡ occurs i (drop (k - 1) l)
-      mark i b true e =
-          let same : i ≡ x = eqb-true i x e in
-          rw (here, e, same) (getD-set-same seen x true false (omega (arith, s .size)))
-      mark i b false e = rw (here, e) (getD-set-other seen x i true false (eqb-false i x e) ∙ s .marked i b)
+    pub seen-next : getD seen x false ≡ false → Seen l (k - 1) (set seen x true)
+    seen-next g =
+        let once : occurs x (drop k l) ≡ false = sym (s .marked x low) ∙ g in
+        record {
+          reached = omega (arith, s .reached);
+          size = length-set seen x true ∙ s .size;
+          marked = λ i b. mark i b (eqb i x) refl;
+          differ = rw (here, once) (s .differ);
+        }
+      where
+        mark : (i : ℕ) → i < 32 → (b : Bool) → eqb i x ≡ b → getD (set seen x true) i false ≡ occurs i (drop (k - 1) l)
+        mark i b true e =
+            let same : i ≡ x = eqb-true i x e in
+            rw (here, e, same) (getD-set-same seen x true false (omega (arith, s .size)))
+        mark i b false e = rw (here, e) (getD-set-other seen x i true false (eqb-false i x e) ∙ s .marked i b)
 
 -- No more different numbers below K than K
 

@@ -1,22 +1,21 @@
 -- Rules 16 to 18: what the code's tests on a line say of the definitions' verdict, row after row, and of the whole sheet.
-use mathlib.Core.Path.{_≡_, refl, sym, ap, ap₂, _∙_}
+use mathlib.Core.Path.{_≡_, refl, ap, ap₂, _∙_}
 use mathlib.Core.Bool.{Bool, true, false, cond, _&&_}
 use mathlib.Core.Option.{Option, none, some}
 use mathlib.Core.List.{List, [], _∷_, map}
-use Prim.Native.Nat.{ℕ, suc, _+_, _-_, _≤_, _<_, min, max}
+use Prim.Native.Nat.{ℕ, suc, _+_, _-_, _≤_, _<_, max}
 use native.Mathlib.Numerals.{add-one}
 use native.Mathlib.Omega.{arith}
-use lib.ListN.{length, take, drop, getD}
+use lib.ListN.{length, take, getD}
 use lib.Dec.{eqb, leb, ltb, leb·suc-suc}
-use borrow.Author.Tests.{leb-true, leb-false, le-leb, lt-leb, ltb-true, ltb-false, lt-ltb, le-ltb}
+use borrow.Author.Tests.{leb-true, leb-false, le-leb, lt-leb, ltb-true, ltb-false}
 use Rattle.theory.specs.Basics.{or-else, all}
-use Rattle.theory.specs.Text.{Bytes, LF, split-lines, ends-in-LF}
+use Rattle.theory.specs.Text.{Bytes, LF, ends-in-LF}
 use Rattle.theory.specs.ProgramText.{above}
 use Rattle.theory.specs.RunSheet.{names, values, distinct}
-use Rattle.theory.specs.TurnedDown.{unless, refuse, names-fault, values-fault, rows-fault}
-use Rattle.theory.specs.declared.Refusal.{Refusal}
+use Rattle.theory.specs.TurnedDown.{unless, names-fault, values-fault}
 use Rattle.sheet.specs.Answers.{fault-as, padded}
-use Rattle.sheet.specs.Lines.{line-of, line-fault, names-line-fault, numbers-of, under, fault-of, checked-rows, rows-as, is-sheet-size}
+use Rattle.sheet.specs.Lines.{line-of, line-fault, names-line-fault, numbers-of, under, fault-of, is-sheet-size}
 use Rattle.sheet.proofs.Distinct.{AllBelow, different-below}
 use Rattle.sheet.proofs.Padded.{padded-take, kept-all}
 
@@ -45,8 +44,8 @@ unfolding line-of line-fault
 values-judged capacity count n none = refl
 values-judged capacity count n (some vs) = rw (at-most capacity vs) (go (eqb (length vs) count) (all (λ v. leb v capacity) vs))
   where
-    go : (same below : Bool)
-        → cond same (cond below (fault-as none) (fault-of 18 n)) (fault-of 16 n) ≡ fault-as (or-else (unless same 16 n) (unless below 18 n))
+    go : (same below : Bool) → cond same (cond below (fault-as none) (fault-of 18 n)) (fault-of 16 n)
+        ≡ fault-as (or-else (unless same 16 n) (unless below 18 n))
     go true true = refl
     go true false = refl
     go false true = refl

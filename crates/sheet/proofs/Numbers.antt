@@ -8,12 +8,12 @@ use native.Mathlib.Numerals.{add-one}
 use native.Mathlib.Omega.{arith}
 use lib.ListN.{length, take, drop, getD}
 use lib.Seq.{take-suc, take-all}
-use lib.Dec.{eqb, leb}
+use lib.Dec.{leb}
 use borrow.Author.Tests.{le-leb, lt-leb, eq-eqb, ne-eqb}
 use Rattle.theory.specs.Basics.{all, with-all, every}
 use Rattle.theory.specs.Text.{Bytes, Found, is-digit, digits, value-after, proper, numeral, name}
 use Rattle.theory.specs.RunSheet.{whole}
-use Rattle.theory.proofs.Numerals.{Split, digits-split, digits-append, value-append, all-append}
+use Rattle.theory.proofs.Numerals.{Split, digits-split, value-append, all-append}
 use Rattle.sheet.specs.Lines.{most, spelled, digits-number, field-of}
 use Rattle.sheet.specs.declared.fields.Spelled.the-variants.{Nothing, Number}
 
@@ -90,7 +90,7 @@ not-all t r b (c ∷ d) e h = rw (← e) (go (is-digit c) (not-all (d ++ (b ∷ 
     go false q = refl
 
 -- A whole numeral is digits alone, properly written
-pub numeral-whole : (t : Bytes) → field-of false t ≡ cond (proper t) (digits-number t) none
+numeral-whole : (t : Bytes) → field-of false t ≡ cond (proper t) (digits-number t) none
 unfolding numeral digits-number
 numeral-whole t = go (digits t .rest) refl
   where
@@ -100,24 +100,27 @@ numeral-whole t = go (digits t .rest) refl
     s : Split t (digits t)
     s = digits-split t
 
-    ended : (x : Bool) → whole (cond x (some (record { value = value-after 0 t; rest = [] })) none) ≡ cond x (some (value-after 0 t)) none
-    ended true = refl
-    ended false = refl
+    found : Bool → ℕ → Bytes → Option (Found ℕ)
+    found x n r = cond x (some (record { value = n; rest = r })) none
 
-    unended : (b : ℕ) (r : Bytes) (x y : Bool) → whole (cond x (some (record { value = value-after 0 d; rest = b ∷ r })) none) ≡ cond y none none
-    unended b r true true = refl
-    unended b r true false = refl
-    unended b r false true = refl
-    unended b r false false = refl
+    ended : (x : Bool) (n : ℕ) → whole (found x n []) ≡ cond x (some n) none
+    ended true n = refl
+    ended false n = refl
+
+    unended : (x y : Bool) (n b : ℕ) (r : Bytes) → whole (found x n (b ∷ r)) ≡ cond y none none
+    unended true true n b r = refl
+    unended true false n b r = refl
+    unended false true n b r = refl
+    unended false false n b r = refl
 
     go : (r : Bytes) → digits t .rest ≡ r → field-of false t ≡ cond (proper t) (digits-number t) none
     go [] e =
         let all-of : d ≡ t = sym (append-nil d) ∙ rw e at (s .whole) in
         let passed : all is-digit t ≡ true = rw all-of at (s .digit) in
-        rw (e, all-of, passed) (ended (proper t))
+        rw (e, all-of, passed) (ended (proper t) (value-after 0 t))
     go (b ∷ r) e =
         let fails : all is-digit t ≡ false = not-all t r b d (rw e at (s .whole)) (rw e at (s .ends)) in
-        rw (e, fails) (unended b r (proper d) (proper t))
+        rw (e, fails) (unended (proper d) (proper t) (value-after 0 d) b r)
 
 pub numeral-empty : (t : Bytes) → length t ≡ 0 → Nothing ≡ spelled (field-of false t)
 numeral-empty [] h = rw (numeral-whole [])

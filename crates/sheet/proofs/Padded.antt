@@ -4,10 +4,9 @@ use mathlib.Core.Bool.{Bool, true, false, cond, _&&_}
 use mathlib.Core.Option.{Option, none, some}
 use mathlib.Core.List.{List, [], _∷_, _++_, map}
 use Prim.Native.Nat.{ℕ, zero, suc, _+_, _-_, _≤_, _<_, min}
-use native.Mathlib.Numerals.{add-one}
 use native.Mathlib.Omega.{arith}
-use lib.ListN.{length, take, drop, getD, set, length-append, length-set, length-take, List·getD-append, List·getD-eq-default}
-use lib.Seq.{ext-getD, getD-take, getD-append-add, getD-set-same, getD-set-other}
+use lib.ListN.{length, take, drop, getD, set, length-append, length-set, length-take, List·getD-eq-default}
+use lib.Seq.{ext-getD, getD-take, getD-set-same, getD-set-other}
 use lib.Dec.{eqb, ltb}
 use borrow.Author.Tests.{ltb-true, ltb-false, lt-ltb, le-ltb, eqb-true, eqb-false, eq-eqb, ne-eqb}
 use Rattle.theory.specs.Basics.{cells, all}
@@ -58,7 +57,7 @@ getD-before [] x (suc j) h = refl
 getD-before (y ∷ l) x zero h = refl
 getD-before (y ∷ l) x (suc j) h = getD-before l x j (λ e. h (ap suc e))
 
-pub padded-push : (l : List ℕ) (x : ℕ) → put-in (padded l) (length l) x ≡ padded (l ++ (x ∷ []))
+padded-push : (l : List ℕ) (x : ℕ) → put-in (padded l) (length l) x ≡ padded (l ++ (x ∷ []))
 unfolding padded
 padded-push l x = go (ltb (length l) 32) refl
   where
@@ -68,11 +67,11 @@ padded-push l x = go (ltb (length l) 32) refl
         cells-same 32 (λ i. getD l i 0) (λ i. getD (l ++ (x ∷ [])) i 0)
         (λ i h. sym (getD-before l x i (λ q. omega (arith, ltb-false (length l) 32 e))))
 
-pub length-padded : (l : List ℕ) → length (padded l) ≡ 32
+length-padded : (l : List ℕ) → length (padded l) ≡ 32
 unfolding padded
 length-padded l = length-cells 32 (λ i. getD l i 0)
 
-pub getD-padded : (l : List ℕ) (i : ℕ) → i < 32 → getD (padded l) i 0 ≡ getD l i 0
+getD-padded : (l : List ℕ) (i : ℕ) → i < 32 → getD (padded l) i 0 ≡ getD l i 0
 unfolding padded
 getD-padded l i h = getD-cells 32 (λ j. getD l j 0) 0 i h
 
@@ -129,7 +128,8 @@ length-more : (l : List ℕ) (x : ℕ) → length l + 1 ≡ length (l ++ (x ∷ 
 length-more l x = sym (length-append l (x ∷ []))
 
 line-same : {a b : List ℕ} {m n : ℕ} {c d : Bool} → a ≡ b → m ≡ n → c ≡ d
-    → _≡_ {A = Line} (record { numbers = a; count = m; shaped = true; below = c }) (record { numbers = b; count = n; shaped = true; below = d })
+    → _≡_ {A = Line} (record { numbers = a; count = m; shaped = true; below = c })
+    (record { numbers = b; count = n; shaped = true; below = d })
 line-same e f g = rw (e, f, g)
 
 pub line-more : (bound : ℕ) (ns : List ℕ) (n : ℕ) → bound ≤ most

@@ -1,14 +1,13 @@
 -- A reader's way along a line, from field to field: what it has read, and what is left.
-use mathlib.Core.Path.{_≡_, refl, sym, ap₂, _∙_}
+use mathlib.Core.Path.{_≡_, refl, ap₂, _∙_}
 use mathlib.Core.Bool.{Bool, true, false}
 use mathlib.Core.Option.{Option, none, some}
 use mathlib.Core.List.{List, [], _∷_, _++_, map, append-assoc, append-nil}
-use Prim.Native.Nat.{ℕ, suc, _+_, _-_, _≤_, _<_, min}
+use Prim.Native.Nat.{ℕ, _+_, _-_, _≤_, _<_, min}
 use native.Mathlib.Omega.{arith}
 use lib.ListN.{length, take, drop, length-append}
 use Rattle.theory.specs.Basics.{every}
 use Rattle.theory.specs.Text.{Bytes, blank, fields}
-use Rattle.sheet.specs.declared.fields.Spelled.{Spelled}
 use Rattle.sheet.specs.declared.fields.Spelled.the-variants.{Nothing, Number}
 use Rattle.sheet.specs.declared.fields.Line.{Line}
 use Rattle.sheet.specs.Lines.{before, most, spelled, field-of, numbers-of, no-numbers, line-of, with-number}
@@ -69,7 +68,8 @@ module _ (t : Bytes) (named : Bool) (bound : ℕ) where
           let size : end - at ≡ before blank (drop at t) = omega arith in
           rw (size, e) (fields-next t at h)
 
-      pub reading-fails : Nothing ≡ spelled (field-of named (take (end - at) (drop at t))) → no-numbers false ≡ line-of bound (numbers-of named t)
+      pub reading-fails : Nothing ≡ spelled (field-of named (take (end - at) (drop at t)))
+          → no-numbers false ≡ line-of bound (numbers-of named t)
       unfolding f numbers-of line-of
       reading-fails q =
           let fails : field-of named f ≡ none = nothing-spelled (field-of named f) q in

@@ -1,4 +1,4 @@
--- Where a line or a field ends: laws of `before`, as a loop along the bytes needs them, and of the lines and the fields that follow one another.
+-- Where a line or a field ends: laws of `before`, as a loop along the bytes needs them, and lines and fields that follow one another.
 use mathlib.Core.Path.{_≡_, refl, sym, ap, ap₂, _∙_}
 use mathlib.Core.Bool.{Bool, true, false, cond}
 use mathlib.Core.List.{List, [], _∷_}
@@ -8,7 +8,7 @@ use native.Mathlib.Omega.{arith}
 use lib.ListN.{length, take, drop, getD, length-drop, length-take, drop-of-length-le}
 use lib.Seq.{drop-cons, drop-drop, drop-length}
 use lib.Dec.{eqb, leb, ltb, leb·suc-suc}
-use borrow.Author.Tests.{eq-eqb, ne-eqb, le-leb, lt-leb, lt-ltb, le-ltb, ltb-true, ltb-false}
+use borrow.Author.Tests.{eq-eqb, ne-eqb, le-leb, lt-leb, lt-ltb, ltb-true, ltb-false}
 use Rattle.theory.specs.Text.{Bytes, LF, blank, onto-first, split-lines, split-blanks, fields}
 use Rattle.sheet.specs.Answers.{head-line, line-at, after-line}
 use Rattle.sheet.specs.Lines.{before}
@@ -22,11 +22,11 @@ module _ (separator : ℕ) where
   unfolding before
   before-more b t h = rw h
 
-  pub before-nil : before separator [] ≡ 0
+  before-nil : before separator [] ≡ 0
   unfolding before
   before-nil = refl
 
-  pub before-length : (t : Bytes) → before separator t ≤ length t
+  before-length : (t : Bytes) → before separator t ≤ length t
   unfolding before
   before-length [] = omega arith
   before-length (b ∷ t) = go (eqb b separator) refl (before-length t)
@@ -52,23 +52,19 @@ module _ (separator : ℕ) where
 -- Lines
 
 -- The first line is what stands before the first LF
-lines-first : (b : ℕ) (t : Bytes)
-    → let n = before LF (b ∷ t) in
-    split-lines (b ∷ t) ≡ take n (b ∷ t) ∷ split-lines (drop (suc n) (b ∷ t))
+abbrev first-line : Bytes → List Bytes
+first-line t = take (before LF t) t ∷ split-lines (drop (suc (before LF t)) t)
+
+lines-first : (b : ℕ) (t : Bytes) → split-lines (b ∷ t) ≡ first-line (b ∷ t)
 unfolding split-lines before
 lines-first b [] = go (eqb b LF) refl
   where
-    go : (x : Bool) → eqb b LF ≡ x
-        → split-lines (b ∷ []) ≡ take (before LF (b ∷ [])) (b ∷ []) ∷ split-lines (drop (suc (before LF (b ∷ []))) (b ∷ []))
+    go : (x : Bool) → eqb b LF ≡ x → split-lines (b ∷ []) ≡ first-line (b ∷ [])
     go true e = rw e
     go false e = rw e
 lines-first b (c ∷ t) = go (eqb b LF) refl (lines-first c t)
   where
-    u : Bytes
-    u = c ∷ t
-
-    go : (x : Bool) → eqb b LF ≡ x → split-lines (c ∷ t) ≡ take (before LF (c ∷ t)) (c ∷ t) ∷ split-lines (drop (suc (before LF (c ∷ t))) (c ∷ t))
-        → split-lines (b ∷ c ∷ t) ≡ take (before LF (b ∷ c ∷ t)) (b ∷ c ∷ t) ∷ split-lines (drop (suc (before LF (b ∷ c ∷ t))) (b ∷ c ∷ t))
+    go : (x : Bool) → eqb b LF ≡ x → split-lines (c ∷ t) ≡ first-line (c ∷ t) → split-lines (b ∷ c ∷ t) ≡ first-line (b ∷ c ∷ t)
     go true e h = rw e
     go false e h = rw e (ap {B = List Bytes} (onto-first b) h)
 
@@ -79,7 +75,7 @@ head-of (b ∷ t) = ap head-line (lines-first b t)
 
 -- The line that begins at a byte
 module _ (s : Bytes) (at : ℕ) where
-  pub line-taken : line-at s at ≡ take (before LF (drop at s)) (drop at s)
+  line-taken : line-at s at ≡ take (before LF (drop at s)) (drop at s)
   unfolding line-at
   line-taken = head-of (drop at s)
 
@@ -179,7 +175,9 @@ pub fields-next : (t : Bytes) (at : ℕ) → at ≤ length t
     → let n = before blank (drop at t) in
     fields-from at t ≡ take n (drop at t) ∷ fields-from (at + n + 1) t
 unfolding fields-from behind-blank
-fields-next t at h = rw (le-leb at (length t) h) (blanks-first (drop at t) ∙ ap {B = List Bytes} (λ fs. f ∷ fs) (go (ltb n (length (drop at t))) refl))
+fields-next t at h =
+    let first : split-blanks (drop at t) ≡ f ∷ behind-blank n (drop at t) = blanks-first (drop at t) in
+    rw (le-leb at (length t) h) (first ∙ ap {B = List Bytes} (λ fs. f ∷ fs) (go (ltb n (length (drop at t))) refl))
   where
     n : ℕ
     n = before blank (drop at t)

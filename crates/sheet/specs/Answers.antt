@@ -10,7 +10,6 @@ use Rattle.theory.specs.RunSheet.{values, start}
 use Rattle.theory.specs.TurnedDown.{values-fault, names-of, sheet-fault}
 use Rattle.theory.specs.declared.Refusal.{Refusal}
 use Rattle.sheet.specs.declared.answers.Names.{Names}
-use Rattle.sheet.specs.declared.answers.Checked.{Checked}
 use Rattle.sheet.specs.declared.answers.Checked.the-variants as C
 use Rattle.sheet.specs.declared.answers.Sheet.{Sheet}
 use Rattle.sheet.specs.declared.answers.Fault.{Fault}

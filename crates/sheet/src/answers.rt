@@ -27,6 +27,7 @@ impl Sheet {
     pub const BYTES: usize = 4096;
 }
 
+// Why a line of values is turned down, if it is.
 pub enum Fault {
     None,
     Refused(Refusal),

@@ -38,6 +38,7 @@ pub fn narrowed(numbers: [u32; 32]) -> [u8; 32]
     bytes
 }
 
+// A byte as an index.
 fn wide(b: u8) -> usize
     ensures { λ r. ⌜ r ≡ b ⌝ }
 {

@@ -1,14 +1,20 @@
 // Where a line or a field ends, the number that a field spells, and the numbers of a line.
+use crate::answers::Names;
 ghost use mathlib.Core.Path.{_≡_};
 ghost use mathlib.Core.Bool.{true, false};
-ghost use Prim.Native.Nat.{_+_, _*_, _≤_, _<_, min};
+ghost use Prim.Native.Nat.{_+_, _*_, _^_, _≤_, _<_, min};
 ghost use lib.ListN.{length, drop};
-ghost use Rattle.sheet.specs.Lines.{before, most, spelled, digits-number, field-of, numbers-of, under, put-in, no-numbers, line-of, with-number};
+ghost use Rattle.sheet.specs.Lines.{before, most, spelled, digits-number, field-of, numbers-of};
+ghost use Rattle.sheet.specs.Lines.{under, put-in, no-numbers, line-of, with-number};
 
-// A number of any size: kept at 2^32 where it is larger, which is above any capacity.
+// The number that a field spells, of any size: kept at MOST where it is larger, which is above any capacity.
 pub enum Spelled {
     Nothing,
     Number(u64),
+}
+
+impl Spelled {
+    const MOST: u64 = 4294967296;
 }
 
 // The numbers of a line: the first 32, and how many there are. `below` says that all are below a bound; one that isn't is kept as 0.
@@ -46,7 +52,11 @@ fn grown(value: u64, digit: u8) -> u64
     ensures { λ r. ⌜ r ≡ min (value * 10 + digit) most ⌝ }
 {
     let next = value * 10 + digit as u64;
-    if next < 4294967296 { next } else { 4294967296 }
+    if next < Spelled::MOST {
+        next
+    } else {
+        Spelled::MOST
+    }
 }
 
 // The number of a text of digits alone.
@@ -57,13 +67,13 @@ fn digits(text: &[u8]) -> Spelled
     let mut i: usize = 0;
     while i < text.len() {
         let b = text[i];
-        if b < 48 {
+        if b < b'0' {
             return Spelled::Nothing;
         }
-        if 57 < b {
+        if b'9' < b {
             return Spelled::Nothing;
         }
-        value = grown(value, b - 48);
+        value = grown(value, b - b'0');
         i += 1;
     }
     Spelled::Number(value)
@@ -77,7 +87,7 @@ fn numeral(text: &[u8]) -> Spelled
         return Spelled::Nothing;
     }
     if 1 < text.len() {
-        if text[0] == 48 {
+        if text[0] == b'0' {
             return Spelled::Nothing;
         }
     }
@@ -91,7 +101,7 @@ fn name(text: &[u8]) -> Spelled
     if text.len() == 0 {
         return Spelled::Nothing;
     }
-    if text[0] != 88 {
+    if text[0] != b'X' {
         return Spelled::Nothing;
     }
     numeral(&text[1..])
@@ -111,16 +121,18 @@ fn bounded(n: u64, bound: u64) -> u32
     if n < bound { n as u32 } else { 0 }
 }
 
+// The numbers with one at a place; they stay as they are where that is past the last.
 fn placed(mut numbers: [u32; 32], at: usize, n: u32) -> [u32; 32]
     ensures { λ r. ⌜ r ≡ put-in numbers at n ⌝ }
 {
-    if at < 32 {
+    if at < Names::COLUMNS {
         numbers[at] = n;
     }
     numbers
 }
 
 impl Line {
+    // No numbers: those of the empty line, or of one of the wrong shape.
     fn none(shaped: bool) -> Self
         ensures { λ r. ⌜ r ≡ no-numbers shaped ⌝ }
     {
@@ -134,7 +146,7 @@ impl Line {
 
     // One number more.
     fn with(self, n: u64, bound: u64) -> Self
-        requires { ⌜ (self .count < 9223372036854775808) × (bound ≤ most) ⌝ }
+        requires { ⌜ (self .count < 2 ^ 63) × (bound ≤ most) ⌝ }
         ensures { λ r. ⌜ r ≡ with-number bound n self ⌝ }
     {
         let before = self.numbers;
@@ -168,7 +180,7 @@ pub fn read_line(text: &[u8], named: bool, bound: u64) -> Line
     let mut line = Line::none(true);
     let mut at: usize = if text.len() == 0 { 1 } else { 0 };
     while at <= text.len() {
-        let end = end_of(text, at, 32);
+        let end = end_of(text, at, b' ');
         match field(&text[at..end], named) {
             Spelled::Nothing => return Line::none(false),
             Spelled::Number(n) => line = line.with(n, bound),

@@ -1,5 +1,5 @@
-// Run sheets (document 01, "Run sheet and run tool"): a sheet checked against a program by rules 16 to 18, and a line of values read into the
-// values that a run starts at.
+// Run sheets (document 01, "Run sheet and run tool"): a sheet checked against a program by rules 16 to 18, and a line of values read into
+// what a run starts at.
 mod answers; // answers.rt: what the entries take and hand back
 mod columns; // columns.rt: names and values by column
 mod fields; // fields.rt: where a line or a field ends, and the numbers of a line
@@ -23,7 +23,6 @@ ghost use mathlib.Core.List.{[]};
 ghost use Prim.Native.Nat.{_≤_, min};
 ghost use lib.ListN.{length, drop};
 ghost use Rattle.theory.specs.Text.{split-lines};
-ghost use Rattle.theory.specs.TurnedDown.{rows-fault};
 ghost use Rattle.sheet.specs.Answers.{sheet-answer, row-answer, checked-as, after-line};
 ghost use Rattle.sheet.specs.Lines.{fault-of, line-fault, names-line-fault, Low, Scans, rows-as, is-sheet-size};
 
@@ -84,7 +83,7 @@ fn scan(sheet: &[u8], count: usize, capacity: u32, n: usize, at: usize) -> Scann
     ensures { λ r. ⌜ Scans (now (sheet .entry)) count capacity n at r ⌝ }
 {
     let from = least(at, sheet.len());
-    let end = end_of(sheet, from, 10);
+    let end = end_of(sheet, from, b'\n');
     let line = read_line(&sheet[from..end], false, capacity as u64 + 1);
     let numbers = line.numbers;
     Scanned {
@@ -114,6 +113,7 @@ fn rows(sheet: &[u8], count: usize, capacity: u32, from: usize) -> Checked
     Checked::Accepted(n - 2)
 }
 
+// A sheet that is turned down.
 fn refused(r: Refusal) -> Sheet
     ensures { λ s. ⌜ s ≡ checked-as (some r) [] 0 ⌝ }
 {
@@ -136,7 +136,7 @@ fn is_sized(sheet: &[u8]) -> bool
     if Sheet::BYTES < sheet.len() {
         return false;
     }
-    sheet[sheet.len() - 1] == 10
+    sheet[sheet.len() - 1] == b'\n'
 }
 
 // Rules 16 to 18 of a whole sheet, for a program of so many variables, at most 32.
@@ -149,7 +149,7 @@ pub fn check(sheet: &[u8], variables: usize, capacity: u32) -> Sheet
             place: 0,
         });
     }
-    let end = end_of(sheet, 0, 10);
+    let end = end_of(sheet, 0, b'\n');
     let line = read_line(
         &sheet[0..end],
         true,
@@ -207,5 +207,5 @@ pub fn row(sheet: &[u8], names: Names, capacity: u32, n: usize, at: usize) -> Ro
 pub fn first_row(sheet: &[u8]) -> usize
     ensures { λ r. ⌜ r ≡ after-line (now (sheet .entry)) 0 ⌝ }
 {
-    least(end_of(sheet, 0, 10) + 1, sheet.len())
+    least(end_of(sheet, 0, b'\n') + 1, sheet.len())
 }

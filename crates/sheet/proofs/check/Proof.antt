@@ -8,9 +8,10 @@ use native.Mathlib.Omega.{arith}
 use borrow.Author.Needs.{needs}
 use borrow.Author.Tests.{not-true, not-false}
 use lib.ListN.{length, drop}
-use Rattle.theory.specs.Text.{split-lines}
+use Rattle.theory.specs.Text.{Bytes, split-lines}
 use Rattle.theory.specs.RunSheet.{names}
 use Rattle.theory.specs.TurnedDown.{names-fault}
+use Rattle.theory.specs.declared.Refusal.{Refusal}
 use Rattle.sheet.specs.declared.fields.Line.{Line}
 use Rattle.sheet.specs.declared.answers.Checked.the-variants as C
 use Rattle.sheet.specs.Answers.{line-at, after-line, fault-as}
@@ -32,7 +33,8 @@ refused-requires c κs = search needs
 returns : tie.Need-returns
 returns c =
     let a : _ = c .before .before .before .before .args in
-    let unsized : _ = sym (c .before .before .is-sized .ensures) ∙ not-true (c .before .before .is-sized .result) (c .before .if1 .taken) in
+    let i : _ = c .before .before .is-sized in
+    let unsized : _ = sym (i .ensures) ∙ not-true (i .result) (c .before .if1 .taken) in
     c .refused .ensures ∙ sheet-unsized (a .sheet .now) (a .capacity) (min (a .variables) 32) unsized
 
 end-of-requires : tie.Need-end-of-requires
@@ -81,21 +83,25 @@ read c =
 low : (c : tie.After-read-line) → Low (c .read-line .result .numbers)
 low c = rw (read c) (line-low (K c) (names (line-at (sheet c) 0)) (omega arith))
 
-verdict : (c : tie.After-names-fault) → c .names-fault .result ≡ fault-as (names-fault (K (c .before)) (names (line-at (sheet (c .before)) 0)))
+first-fault : tie.After-read-line → Option Refusal
+first-fault c = names-fault (K c) (names (line-at (sheet c) 0))
+
+verdict : (c : tie.After-names-fault) → c .names-fault .result ≡ fault-as (first-fault (c .before))
+unfolding first-fault
 verdict c =
-    let k : ℕ = K (c .before) in
     let o : Option (List ℕ) = names (line-at (sheet (c .before)) 0) in
-    c .names-fault .ensures ∙ ap names-line-fault (read (c .before)) ∙ names-judged k o (omega arith)
+    c .names-fault .ensures ∙ ap names-line-fault (read (c .before)) ∙ names-judged (K (c .before)) o (omega arith)
 
 -- Past the line of names, which has no fault
 
-passed : (c : tie.After-enum-told) → names-fault (K (c .before .before .before)) (names (line-at (sheet (c .before .before .before)) 0)) ≡ none
-passed c =
-    let n : _ = c .before .before in
-    no-fault (names-fault (K (n .before)) (names (line-at (sheet (n .before)) 0))) (sym (c .enum-told .given .1) ∙ verdict n)
+passed : (c : tie.After-enum-told) → first-fault (c .before .before .before) ≡ none
+passed c = no-fault (first-fault (c .before .before .before)) (sym (c .enum-told .given .1) ∙ verdict (c .before .before))
 
 count : (c : tie.After-read-line) → c .read-line .result .count ≡ line-of (K c) (names (line-at (sheet c) 0)) .count
 count c = ap (λ (l : Line). l .count) (read c)
+
+rest : tie.After-read-line → List Bytes
+rest c = split-lines (drop (after-line (sheet c) 0) (sheet c))
 
 next : (c : tie.After-read-line) → min (c .before .before .before .end-of .result + 1) (length (sheet c)) ≡ after-line (sheet c) 0
 next c =
@@ -115,12 +121,12 @@ refused-requires-2 : tie.Need-refused-requires-2
 refused-requires-2 c κs = search needs
 
 returns-2 : tie.Need-returns-2
+unfolding first-fault
 returns-2 c =
     let n : _ = c .before .before .before .before in
     let l : _ = n .before in
     let f : _ = c .before .before .found .given in
-    let o : _ = names-fault (K l) (names (line-at (sheet l) 0)) in
-    let faulty : o ≡ some (f .0 .0) = some-fault o (f .0 .0) (sym (f .1) ∙ verdict n) in
+    let faulty : first-fault l ≡ some (f .0 .0) = some-fault (first-fault l) (f .0 .0) (sym (f .1) ∙ verdict n) in
     let capacity : ℕ = l .before .before .before .before .before .before .before .args .capacity in
     c .refused2 .ensures ∙ sheet-names-refused (sheet l) capacity (K l) (sized l) (f .0 .0) faulty
 
@@ -148,25 +154,27 @@ narrowed-requires : tie.Need-narrowed-requires
 narrowed-requires c κs = low (c .before .before .before .before .before .before .before .before .before)
 
 returns-3 : tie.Need-returns-3
+unfolding first-fault rest
 returns-3 c =
     let w : _ = c .before .before .before .before in
     let e : _ = w .before .before in
     let l : _ = e .before .before .before in
     let r : _ = c .before .before .r .given in
     let capacity : ℕ = l .before .before .before .before .before .before .before .args .capacity in
-    let faulty : C.Refused (r .0 .0) ≡ rows-as capacity (l .read-line .result .count) (split-lines (drop (after-line (sheet l) 0) (sheet l))) =
+    let faulty : C.Refused (r .0 .0) ≡ rows-as capacity (l .read-line .result .count) (rest l) =
     rw (w .before .least2 .ensures ∙ next l) at (sym (r .1) ∙ w .rows .ensures) in
     c .refused3 .ensures
     ∙ sheet-rows-refused (sheet l) capacity (K l) (sized l) (passed e) (l .read-line .result .count) (r .0 .0) (count l) faulty
 
 returns-4 : tie.Need-returns-4
+unfolding first-fault rest
 returns-4 c =
     let w : _ = c .before .before .before .before .before in
     let e : _ = w .before .before in
     let l : _ = e .before .before .before in
     let n : _ = c .before .before .before .count .given in
     let capacity : ℕ = l .before .before .before .before .before .before .before .args .capacity in
-    let fine : C.Accepted (n .0 .0) ≡ rows-as capacity (l .read-line .result .count) (split-lines (drop (after-line (sheet l) 0) (sheet l))) =
+    let fine : C.Accepted (n .0 .0) ≡ rows-as capacity (l .read-line .result .count) (rest l) =
     rw (w .before .least2 .ensures ∙ next l) at (sym (n .1) ∙ w .rows .ensures) in
     sheet-done (sheet l) capacity (K l) (sized l) (passed e) (l .read-line .result .count) (n .0 .0) (c .narrowed .result) (count l)
     (c .narrowed .ensures ∙ ap (λ (l : Line). l .numbers) (read l)) fine

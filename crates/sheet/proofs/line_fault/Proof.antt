@@ -1,4 +1,6 @@
 -- `line_fault` meets its contract: the definition makes the same tests.
+use mathlib.Core.Path.{_≡_}
+use mathlib.Core.Bool.{true}
 use borrow.Author.Needs.{needs}
 use borrow.Author.Tests.{eq-eqb, ne-eqb, not-true, not-false}
 use Rattle.sheet.specs.Lines.{line-fault}
@@ -34,8 +36,8 @@ returns-4 : tie.Need-returns-4
 unfolding line-fault
 returns-4 c =
     let l : _ = c .before .before .before .before .before .before .args .line in
-    rw (not-false (l .shaped) (c .before .before .before .before .if1 .left), eq-eqb _ _ (c .before .before .if2 .left), c .before .if3 .left)
-    (c .turned-down3 .ensures)
+    let shaped : l .shaped ≡ true = not-false (l .shaped) (c .before .before .before .before .if1 .left) in
+    rw (shaped, eq-eqb _ _ (c .before .before .if2 .left), c .before .if3 .left) (c .turned-down3 .ensures)
 
 pub line-fault-spec : {M : Type 1} → statement M
 line-fault-spec =

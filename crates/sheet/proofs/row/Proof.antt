@@ -43,7 +43,8 @@ returns c =
     let o : _ = values-fault (a .capacity) count (a .n) (values (line-at s (a .at))) in
     let fine : o ≡ none = no-fault o (sym (e .enum-told .given .1) ∙ u .scan .ensures .judged) in
     let spread : _ = rw (u .scan .ensures .numbers-read) at (c .spread .ensures) in
-    row-done s (a .names) (a .capacity) (a .n) (a .at) count (u .before .least .ensures) (size b) fine _ _ spread (u .scan .ensures .next-line)
+    row-done s (a .names) (a .capacity) (a .n) (a .at) count (u .before .least .ensures) (size b)
+    fine _ _ spread (u .scan .ensures .next-line)
 
 returns-2 : tie.Need-returns-2
 unfolding padded
@@ -56,7 +57,8 @@ returns-2 c =
     let f : _ = c .before .found .given in
     let o : _ = values-fault (a .capacity) count (a .n) (values (line-at s (a .at))) in
     let faulty : o ≡ some (f .0 .0) = some-fault o (f .0 .0) (sym (f .1) ∙ u .scan .ensures .judged) in
-    row-refused s (a .names) (a .capacity) (a .n) (a .at) count (u .before .least .ensures) (size b) (f .0 .0) faulty _ (u .scan .ensures .next-line)
+    row-refused s (a .names) (a .capacity) (a .n) (a .at) count (u .before .least .ensures) (size b)
+    (f .0 .0) faulty _ (u .scan .ensures .next-line)
 
 pub row-spec : {M : Type 1} → statement M
 row-spec =

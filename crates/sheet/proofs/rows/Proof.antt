@@ -1,14 +1,13 @@
--- `rows` meets its contract. The loop's invariant: the lines before `at` are passed, and the next is line `n`. What is left of the sheet falls.
+-- `rows` meets its contract. The loop's invariant: the lines before `at` are passed, line `n` is next. What is left of the sheet falls.
 use mathlib.Core.Path.{_≡_, sym, _∙_}
-use mathlib.Core.List.{List}
 use mathlib.Core.Option.{none, some}
-use Prim.Native.Nat.{ℕ, _-_, _<_}
+use Prim.Native.Nat.{_-_}
 use native.Mathlib.Omega.{arith}
 use borrow.Author.Needs.{needs}
 use lib.ListN.{length}
 use Rattle.theory.specs.RunSheet.{values}
 use Rattle.theory.specs.TurnedDown.{values-fault}
-use Rattle.sheet.specs.Answers.{line-at, after-line}
+use Rattle.sheet.specs.Answers.{line-at}
 use Rattle.sheet.proofs.Along.{no-fault, some-fault, Along, along-start, along-further, along-next, along-fault, along-end}
 use Rattle.sheet.proofs.rows.Statement.{statement}
 use Rattle.sheet.proofs.rows.Tie as tie
@@ -54,8 +53,8 @@ loop-less c =
     let u : _ = c .before .before in
     let a : _ = u .before .before .before .before .args in
     let l : _ = u .before .before .loop in
-    let test : _ = u .before .loop-test .taken in
-    omega (arith, u .scan .ensures .next-line, along-further (a .sheet .now) (a .capacity) (a .count) (a .from) (l .at) (l .n) (l .inv) test)
+    let next : _ = u .scan .ensures .next-line in
+    omega (arith, along-further (a .sheet .now) (a .capacity) (a .count) (a .from) (l .at) (l .n) (l .inv) (u .before .loop-test .taken))
 
 loop-again : tie.Need-loop-again Inv-loop μ-loop
 loop-again c =

@@ -5,7 +5,6 @@ use Prim.Native.Nat.{ℕ, _+_, _≤_}
 use native.Mathlib.Omega.{arith}
 use borrow.Author.Needs.{needs}
 use lib.ListN.{length}
-use Rattle.theory.specs.Text.{LF}
 use Rattle.theory.specs.RunSheet.{values}
 use Rattle.sheet.specs.declared.fields.Line.{Line}
 use Rattle.sheet.specs.Answers.{line-at}

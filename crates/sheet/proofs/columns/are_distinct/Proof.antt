@@ -7,7 +7,6 @@ use native.Mathlib.Omega.{arith}
 use lib.ListN.{length, take, getD, set}
 use lib.Seq.{length-take-le, getD-take}
 use Rattle.theory.specs.RunSheet.{distinct}
-use Rattle.sheet.specs.Lines.{Low}
 use Rattle.sheet.proofs.Distinct.{Seen, seen-start, seen-again, seen-next}
 use Rattle.sheet.proofs.columns.are_distinct.Statement.{statement}
 use Rattle.sheet.proofs.columns.are_distinct.Tie as tie

@@ -1,6 +1,6 @@
 -- `narrowed` meets its contract. The loop's invariant: the bytes before `k` are the numbers there. What is left of 32 falls.
 use mathlib.Core.Path.{_≡_, refl, sym, _∙_}
-use Prim.Native.Nat.{_+_, _-_, _≤_}
+use Prim.Native.Nat.{_-_, _≤_}
 use native.Mathlib.Numerals.{add-one}
 use native.Mathlib.Omega.{arith}
 use lib.ListN.{length, take, length-set}

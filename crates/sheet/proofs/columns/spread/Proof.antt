@@ -1,6 +1,6 @@
 -- `spread` meets its contract. The loop's invariant: the values of the columns from `k` on are with their variables. `k` falls.
 use mathlib.Core.Path.{_≡_, _∙_}
-use Prim.Native.Nat.{_-_, _≤_}
+use Prim.Native.Nat.{_≤_}
 use native.Mathlib.Omega.{arith}
 use borrow.Author.Needs.{needs}
 use lib.ListN.{length}

@@ -1,4 +1,4 @@
--- `digits` meets its contract. The loop's invariant: every byte before `i` is a digit, and `value` is what they spell. What is left of the text falls.
+-- `digits` meets its contract. The loop's invariant: the bytes before `i` are digits that spell `value`. What is left of the text falls.
 use Prim.Native.Nat.{_-_}
 use native.Mathlib.Omega.{arith}
 use lib.ListN.{length}

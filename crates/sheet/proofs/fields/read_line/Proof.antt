@@ -1,8 +1,8 @@
 -- `read_line` meets its contract. The loop's invariant: the fields before `at` are read. What is left of the line falls.
-use mathlib.Core.Path.{_≡_, sym, _∙_}
+use mathlib.Core.Path.{sym, _∙_}
 use mathlib.Core.Logic.{⊎-elim}
 use mathlib.Core.List.{List}
-use Prim.Native.Nat.{ℕ, _+_, _-_, _≤_, _<_}
+use Prim.Native.Nat.{ℕ, _+_, _-_, _≤_}
 use native.Mathlib.Omega.{arith}
 use borrow.Author.Needs.{needs}
 use lib.ListN.{length}
@@ -41,7 +41,8 @@ part-field-start c = search needs
 part-field-end : tie.Need-part-field-end Inv-loop μ-loop
 part-field-end c =
     let t : List ℕ = c .before .before .before .before .before .before .before .args .text .now in
-    omega (arith, c .before .end-of .ensures, before-within blank t (c .before .before .before .loop .at) (c .before .before .loop-test .taken))
+    let end : _ = c .before .end-of .ensures in
+    omega (arith, before-within blank t (c .before .before .before .loop .at) (c .before .before .loop-test .taken))
 
 field-requires : tie.Need-field-requires Inv-loop μ-loop
 field-requires c κs = search needs
