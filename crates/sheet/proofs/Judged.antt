@@ -1,0 +1,112 @@
+-- Rules 16 to 18: what the code's tests on a line say of the definitions' verdict, row after row, and of the whole sheet.
+use mathlib.Core.Path.{_≡_, refl, ap, ap₂, _∙_}
+use mathlib.Core.Bool.{Bool, true, false, cond, _&&_}
+use mathlib.Core.Option.{Option, none, some}
+use mathlib.Core.List.{List, [], _∷_, map}
+use Prim.Native.Nat.{ℕ, suc, _+_, _-_, _≤_, _<_, max}
+use native.Mathlib.Numerals.{add-one}
+use native.Mathlib.Omega.{arith}
+use lib.ListN.{length, take, getD}
+use lib.Dec.{eqb, leb, ltb, leb·suc-suc}
+use borrow.Author.Tests.{leb-true, leb-false, le-leb, lt-leb, ltb-true, ltb-false}
+use Rattle.theory.specs.Basics.{or-else, all}
+use Rattle.theory.specs.Text.{Bytes, LF, ends-in-LF}
+use Rattle.theory.specs.ProgramText.{above}
+use Rattle.theory.specs.RunSheet.{names, values, distinct}
+use Rattle.theory.specs.TurnedDown.{unless, names-fault, values-fault}
+use Rattle.sheet.specs.Answers.{fault-as, padded}
+use Rattle.sheet.specs.Lines.{line-of, line-fault, names-line-fault, numbers-of, under, fault-of, is-sheet-size}
+use Rattle.sheet.proofs.Distinct.{AllBelow, different-below}
+use Rattle.sheet.proofs.Padded.{padded-take, kept-all}
+
+-- The two ways to read a line
+pub numbers-names : (l : Bytes) → numbers-of true l ≡ names l
+unfolding numbers-of names
+numbers-names l = refl
+
+pub numbers-values : (l : Bytes) → numbers-of false l ≡ values l
+unfolding numbers-of values
+numbers-values l = refl
+
+-- A line of values
+
+all-same : (f g : ℕ → Bool) → ((n : ℕ) → f n ≡ g n) → (l : List ℕ) → all f l ≡ all g l
+all-same f g h [] = refl
+all-same f g h (n ∷ l) = ap₂ _&&_ (h n) (all-same f g h l)
+
+-- Above a capacity is not below one more
+pub at-most : (capacity : ℕ) (vs : List ℕ) → all (λ v. ltb v (capacity + 1)) vs ≡ all (λ v. leb v capacity) vs
+at-most capacity = all-same (λ v. ltb v (capacity + 1)) (λ v. leb v capacity) (λ v. rw (add-one capacity, leb·suc-suc v capacity))
+
+pub values-judged : (capacity count n : ℕ) (o : Option (List ℕ))
+    → line-fault (line-of (capacity + 1) o) count n ≡ fault-as (values-fault capacity count n o)
+unfolding line-of line-fault
+values-judged capacity count n none = refl
+values-judged capacity count n (some vs) = rw (at-most capacity vs) (go (eqb (length vs) count) (all (λ v. leb v capacity) vs))
+  where
+    go : (same below : Bool) → cond same (cond below (fault-as none) (fault-of 18 n)) (fault-of 16 n)
+        ≡ fault-as (or-else (unless same 16 n) (unless below 18 n))
+    go true true = refl
+    go true false = refl
+    go false true = refl
+    go false false = refl
+
+-- The line of names
+
+max-below : (n a K : ℕ) → leb (max (suc n) a) K ≡ (ltb n K && leb a K)
+max-below n a K = go (ltb n K) (leb a K) refl refl
+  where
+    go : (x y : Bool) → ltb n K ≡ x → leb a K ≡ y → leb (max (suc n) a) K ≡ (x && y)
+    go true true e f = le-leb (max (suc n) a) K (omega (arith, ltb-true n K e, leb-true a K f))
+    go true false e f = lt-leb (max (suc n) a) K (omega (arith, leb-false a K f))
+    go false y e f = lt-leb (max (suc n) a) K (omega (arith, ltb-false n K e))
+
+pub above-below : (K : ℕ) (ns : List ℕ) → leb (above ns) K ≡ all (λ n. ltb n K) ns
+above-below K [] = le-leb 0 K (omega arith)
+above-below K (n ∷ ns) = max-below n (above ns) K ∙ ap (λ b. ltb n K && b) (above-below K ns)
+
+too-many : (K : ℕ) (ns : List ℕ) → K ≤ 32 → AllBelow K ns → 32 < length ns → distinct ns ≡ false
+too-many K ns h below many = go (distinct ns) refl
+  where
+    go : (b : Bool) → distinct ns ≡ b → distinct ns ≡ false
+    go true e = absurd (omega (arith, different-below K ns below e))
+    go false e = e
+
+pub names-judged : (K : ℕ) (o : Option (List ℕ)) → K ≤ 32 → names-line-fault (line-of K o) ≡ fault-as (names-fault K o)
+unfolding line-of names-line-fault
+names-judged K none h = refl
+names-judged K (some ns) h = rw (above-below K ns) (go (all (λ n. ltb n K) ns) (leb (length ns) 32) refl refl)
+  where
+    verdict : (b : Bool) → cond b (fault-as none) (fault-of 17 1) ≡ fault-as (unless b 17 1)
+    verdict true = refl
+    verdict false = refl
+
+    go : (below few : Bool) → all (λ n. ltb n K) ns ≡ below → leb (length ns) 32 ≡ few
+        → cond (below && few && distinct (take (length ns) (padded (map (under K) ns)))) (fault-as none) (fault-of 17 1)
+        ≡ fault-as (unless (below && distinct ns) 17 1)
+    go false few e f = refl
+    go true true e f = rw (kept-all K ns e, padded-take ns (leb-true (length ns) 32 f)) (verdict (distinct ns))
+    go true false e f = rw (too-many K ns h e (leb-false (length ns) 32 f))
+
+-- The size rules of 16
+
+pub sized-empty : (t : Bytes) → length t ≡ 0 → false ≡ is-sheet-size t
+unfolding is-sheet-size ends-in-LF
+sized-empty [] h = refl
+sized-empty (b ∷ t) h = absurd (omega arith)
+
+pub sized-long : (t : Bytes) → 4096 < length t → false ≡ is-sheet-size t
+unfolding is-sheet-size
+sized-long t h = rw (lt-leb (length t) 4096 h)
+
+last-byte : (b : ℕ) (t : Bytes) → eqb (getD (b ∷ t) (length t) 0) LF ≡ ends-in-LF (b ∷ t)
+unfolding ends-in-LF
+last-byte b [] = refl
+last-byte b (c ∷ t) = last-byte c t
+
+pub sized-last : (t : Bytes) → (length t ≡ 0 → ⊥) → length t ≤ 4096 → eqb (getD t (length t - 1) 0) LF ≡ is-sheet-size t
+unfolding is-sheet-size
+sized-last [] h l = absurd (h refl)
+sized-last (b ∷ t) h l =
+    let last : length (b ∷ t) - 1 ≡ length t = omega arith in
+    rw (le-leb (length (b ∷ t)) 4096 l, last) (last-byte b t)

@@ -1,0 +1,87 @@
+-- `scan` meets its contract: the part that it reads is the line, and the line is judged as the definition judges its values.
+use mathlib.Core.Path.{_≡_, ap, _∙_}
+use mathlib.Core.List.{List}
+use Prim.Native.Nat.{ℕ, _+_, _≤_}
+use native.Mathlib.Omega.{arith}
+use borrow.Author.Needs.{needs}
+use lib.ListN.{length}
+use Rattle.theory.specs.RunSheet.{values}
+use Rattle.sheet.specs.declared.fields.Line.{Line}
+use Rattle.sheet.specs.Answers.{line-at}
+use Rattle.sheet.specs.Lines.{line-of, line-fault}
+use Rattle.sheet.proofs.Splits.{part-end, part-line, part-next}
+use Rattle.sheet.proofs.Judged.{numbers-values, values-judged}
+use Rattle.sheet.proofs.scan.Statement.{statement}
+use Rattle.sheet.proofs.scan.Tie as tie
+
+least-requires : tie.Need-least-requires
+least-requires c κs = search needs
+
+end-of-requires : tie.Need-end-of-requires
+end-of-requires c κs = omega (arith, c .least .ensures)
+
+sub-read-line : tie.Need-sub-read-line
+sub-read-line c = omega (arith, c .end-of .ensures)
+
+part-read-line-start : tie.Need-part-read-line-start
+part-read-line-start c = search needs
+
+-- The part ends within the sheet
+within : (c : tie.After-end-of) → c .end-of .result ≤ length (c .before .before .before .args .sheet .now)
+within c =
+    let a : _ = c .before .before .before .args in
+    part-end (a .sheet .now) (a .at) (c .before .least .result) (c .end-of .result) (c .before .least .ensures) (c .end-of .ensures)
+
+part-read-line-end : tie.Need-part-read-line-end
+part-read-line-end c = omega (arith, within c)
+
+add-read-line : tie.Need-add-read-line
+add-read-line c = search needs
+
+read-line-requires : tie.Need-read-line-requires
+read-line-requires c κs = search needs
+
+add-least : tie.Need-add-least
+add-least c =
+    let s : _ = c .before .before .before .before .before .before in
+    omega (arith, within (c .before .before .before), s .good .0 .1)
+
+least-requires-2 : tie.Need-least-requires-2
+least-requires-2 c κs = search needs
+
+line-fault-requires : tie.Need-line-fault-requires
+line-fault-requires c κs = search needs
+
+returns : tie.Need-returns
+returns c =
+    let u : _ = c .before .before .before in
+    let e : _ = u .before .before in
+    let a : _ = e .before .before .before .args in
+    let s : List ℕ = a .sheet .now in
+    let from : ℕ = e .before .least .result in
+    let end : ℕ = e .end-of .result in
+    let part : _ = part-line s (a .at) from end (e .before .least .ensures) (e .end-of .ensures) in
+    let next : _ = part-next s (a .at) from end (e .before .least .ensures) (e .end-of .ensures) in
+    let read : u .read-line .result ≡ line-of (a .capacity + 1) (values (line-at s (a .at))) =
+    rw (part, numbers-values (line-at s (a .at))) at (u .read-line .ensures) in
+    record {
+      numbers-read = ap (λ (l : Line). l .numbers) read;
+      next-line = c .before .least2 .ensures ∙ next;
+      judged = rw read at (c .line-fault .ensures) ∙ values-judged (a .capacity) (a .count) (a .n) (values (line-at s (a .at)));
+    }
+
+pub scan-spec : {M : Type 1} → statement M
+scan-spec =
+    tie.close
+    (tie.spec
+    least-requires
+    end-of-requires
+    sub-read-line
+    part-read-line-start
+    part-read-line-end
+    add-read-line
+    read-line-requires
+    add-least
+    least-requires-2
+    line-fault-requires
+    returns)

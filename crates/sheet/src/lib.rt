@@ -1,0 +1,211 @@
+// Run sheets (document 01, "Run sheet and run tool"): a sheet checked against a program by rules 16 to 18, and a line of values read into
+// what a run starts at.
+mod answers; // answers.rt: what the entries take and hand back
+mod columns; // columns.rt: names and values by column
+mod fields; // fields.rt: where a line or a field ends, and the numbers of a line
+
+pub use answers::Checked;
+pub use answers::Fault;
+pub use answers::Names;
+pub use answers::Row;
+pub use answers::Sheet;
+use columns::are_distinct;
+use columns::narrowed;
+use columns::spread;
+use fields::Line;
+use fields::end_of;
+use fields::least;
+use fields::read_line;
+use theory::Refusal;
+ghost use mathlib.Core.Path.{_≡_};
+ghost use mathlib.Core.Option.{some};
+ghost use mathlib.Core.List.{[]};
+ghost use Prim.Native.Nat.{_≤_, min};
+ghost use lib.ListN.{length, drop};
+ghost use Rattle.theory.specs.Text.{split-lines};
+ghost use Rattle.sheet.specs.Answers.{sheet-answer, row-answer, checked-as, after-line};
+ghost use Rattle.sheet.specs.Lines.{fault-of, line-fault, names-line-fault, Low, Scans, rows-as, is-sheet-size};
+
+// The numbers of a line of values, before they go to their variables.
+struct Scanned {
+    numbers: [u32; 32],
+    next: usize,
+    fault: Fault,
+}
+
+fn turned_down(number: u32, place: usize) -> Fault
+    ensures { λ r. ⌜ r ≡ fault-of number place ⌝ }
+{
+    Fault::Refused(Refusal { number, place })
+}
+
+// Rules 16 and 18, for line `n` of the sheet, of so many columns.
+fn line_fault(line: Line, count: usize, n: usize) -> Fault
+    ensures { λ r. ⌜ r ≡ line-fault line count n ⌝ }
+{
+    if !line.shaped {
+        return turned_down(16, n);
+    }
+    if line.count != count {
+        return turned_down(16, n);
+    }
+    if line.below {
+        Fault::None
+    } else {
+        turned_down(18, n)
+    }
+}
+
+// Rules 16 and 17, for the line of names.
+fn names_fault(line: Line) -> Fault
+    requires { ⌜ Low (line .numbers) ⌝ }
+    ensures { λ r. ⌜ r ≡ names-line-fault line ⌝ }
+{
+    if !line.shaped {
+        return turned_down(16, 1);
+    }
+    if !line.below {
+        return turned_down(17, 1);
+    }
+    if Names::COLUMNS < line.count {
+        return turned_down(17, 1);
+    }
+    let numbers = line.numbers;
+    if are_distinct(numbers, line.count) {
+        Fault::None
+    } else {
+        turned_down(17, 1)
+    }
+}
+
+// The line that begins at `at`, as line `n` of values.
+fn scan(sheet: &[u8], count: usize, capacity: u32, n: usize, at: usize) -> Scanned
+    ensures { λ r. ⌜ Scans (now (sheet .entry)) count capacity n at r ⌝ }
+{
+    let from = least(at, sheet.len());
+    let end = end_of(sheet, from, b'\n');
+    let line = read_line(&sheet[from..end], false, capacity as u64 + 1);
+    let numbers = line.numbers;
+    Scanned {
+        numbers,
+        next: least(end + 1, sheet.len()),
+        fault: line_fault(line, count, n),
+    }
+}
+
+// Every line of values, of which the first begins at `from`.
+fn rows(sheet: &[u8], count: usize, capacity: u32, from: usize) -> Checked
+    requires { ⌜ from ≤ length (now sheet) ⌝ }
+    ensures { λ r. ⌜ r ≡ rows-as capacity count (split-lines (drop from (now (sheet .entry)))) ⌝ }
+{
+    let mut at = from;
+    let mut n: usize = 2;
+    while at < sheet.len() {
+        let line = scan(sheet, count, capacity, n, at);
+        let found = line.fault;
+        match found {
+            Fault::None => {}
+            Fault::Refused(r) => return Checked::Refused(r),
+        }
+        at = line.next;
+        n += 1;
+    }
+    Checked::Accepted(n - 2)
+}
+
+// A sheet that is turned down.
+fn refused(r: Refusal) -> Sheet
+    ensures { λ s. ⌜ s ≡ checked-as (some r) [] 0 ⌝ }
+{
+    Sheet {
+        names: Names {
+            columns: [0; 32],
+            count: 0,
+        },
+        checked: Checked::Refused(r),
+    }
+}
+
+// The size rules of 16.
+fn is_sized(sheet: &[u8]) -> bool
+    ensures { λ r. ⌜ r ≡ is-sheet-size (now (sheet .entry)) ⌝ }
+{
+    if sheet.len() == 0 {
+        return false;
+    }
+    if Sheet::BYTES < sheet.len() {
+        return false;
+    }
+    sheet[sheet.len() - 1] == b'\n'
+}
+
+// Rules 16 to 18 of a whole sheet, for a program of so many variables, at most 32.
+pub fn check(sheet: &[u8], variables: usize, capacity: u32) -> Sheet
+    ensures { λ r. ⌜ r ≡ sheet-answer capacity (min variables 32) (now (sheet .entry)) ⌝ }
+{
+    if !is_sized(sheet) {
+        return refused(Refusal {
+            number: 16,
+            place: 0,
+        });
+    }
+    let end = end_of(sheet, 0, b'\n');
+    let line = read_line(
+        &sheet[0..end],
+        true,
+        least(variables, Names::COLUMNS) as u64,
+    );
+    let found = names_fault(line);
+    match found {
+        Fault::None => {}
+        Fault::Refused(r) => return refused(r),
+    }
+    let next = least(end + 1, sheet.len());
+    match rows(sheet, line.count, capacity, next) {
+        Checked::Refused(r) => refused(r),
+        Checked::Accepted(count) => {
+            let numbers = line.numbers;
+            let columns = narrowed(numbers);
+            Sheet {
+                names: Names {
+                    columns,
+                    count: line.count,
+                },
+                checked: Checked::Accepted(count),
+            }
+        }
+    }
+}
+
+// Line `n` of the sheet, a line of values that begins at byte `at`.
+pub fn row(sheet: &[u8], names: Names, capacity: u32, n: usize, at: usize) -> Row
+    ensures { λ r. ⌜ r ≡ row-answer (now (sheet .entry)) names capacity n at ⌝ }
+{
+    let count = least(names.count, Names::COLUMNS);
+    let line = scan(sheet, count, capacity, n, at);
+    let found = line.fault;
+    match found {
+        Fault::None => {
+            let columns = names.columns;
+            let numbers = line.numbers;
+            let values = spread(columns, count, numbers);
+            Row {
+                values,
+                next: line.next,
+                fault: Fault::None,
+            }
+        }
+        Fault::Refused(r) => Row {
+            values: [0; 32],
+            next: line.next,
+            fault: Fault::Refused(r),
+        },
+    }
+}
+
+// The byte behind the names line, where line 2 begins.
+pub fn first_row(sheet: &[u8]) -> usize
+    ensures { λ r. ⌜ r ≡ after-line (now (sheet .entry)) 0 ⌝ }
+{
+    least(end_of(sheet, 0, b'\n') + 1, sheet.len())
+}
