@@ -4,20 +4,20 @@ use mathlib.Core.Logic.{_⊎_, inl, inr, ⊎-elim}
 use mathlib.Core.Bool.{Bool, true, false}
 use mathlib.Core.Option.{Option, none, some}
 use mathlib.Core.List.{List, [], _∷_, _++_}
-use Prim.Native.Nat.{ℕ, zero, suc, _+_, _-_, _≤_, _<_, zero-le}
+use Prim.Native.Nat.{ℕ, zero, suc, _+_, _≤_, _<_, zero-le}
 use native.Mathlib.Numerals.{add-one}
 use native.Mathlib.Omega.{arith}
 use lib.ListN.{length, take, drop, getD, length-drop, drop-of-length-le}
-use lib.Seq.{drop-cons, take-suc, take-all}
+use lib.Seq.{drop-cons, take-suc}
 use lib.Dec.{eqb, leb}
-use borrow.Author.Tests.{eq-eqb, ne-eqb, eqb-true, eqb-false, le-leb, lt-leb, leb-true, leb-false, lt-ltb, le-ltb}
+use borrow.Author.Tests.{eq-eqb, ne-eqb, eqb-false, le-leb, lt-leb, leb-true, leb-false, lt-ltb, le-ltb}
 use Rattle.theory.specs.Limits
 use Rattle.theory.specs.Word.{Entry, entries}
 use Rattle.theory.specs.TurnedDown.{word-entries, entry-fault, entry-size, first-along, total, rule-13, rule-14}
 use Rattle.theory.proofs.Words.{entry}
 use Rattle.word.specs.declared.answers.Read.the-variants.{Done, Refused}
 use Rattle.word.specs.Scan.{kind-number, item, item-at, ones-at, hashes-at, fault-place, scan-answer}
-use Rattle.word.proofs.Items.{Known, entries-at, next-past, next-within}
+use Rattle.word.proofs.Items.{Known, entries-at, next-within}
 
 pub total-append : (t u : List Entry) → total (t ++ u) ≡ total t + total u
 total-append [] u = omega arith

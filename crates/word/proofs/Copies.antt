@@ -1,11 +1,10 @@
 -- The numbers of a table of records after so many turns, in arrays that begin as 0s.
-use mathlib.Core.Path.{_≡_, refl, sym, ap, _∙_}
-use mathlib.Core.List.{List, [], _∷_, map}
+use mathlib.Core.Path.{_≡_, sym, ap, _∙_}
+use mathlib.Core.List.{List, map}
 use Prim.Native.Nat.{ℕ, _+_, _≤_, _<_}
 use native.Mathlib.Omega.{arith}
 use lib.ListN.{length, getD, set, replicate, length-map, length-replicate, List·getD-map}
 use Rattle.theory.specs.Word.{Entry}
-use Rattle.theory.proofs.Words.{entry}
 use Rattle.word.specs.declared.answers.Instruction.{Instruction}
 use Rattle.word.specs.declared.records.Numbers.{Numbers}
 use Rattle.word.specs.Answers.{entry-of, entries-of}
@@ -36,7 +35,8 @@ module _ (f : Entry → ℕ) (t : List Instruction) where
   copied-length j h g =
       put-length f (replicate 8192 0) (entries-of t) j (omega (arith, zeros)) (omega (arith, length-map t entry-of)) ∙ zeros
 
-  pub copied-next : (j : ℕ) → j < 8192 → j < length t → (x : ℕ) → x ≡ f (entry-of (getD t j no-record)) → set (copied-at j) j x ≡ copied-at (j + 1)
+  pub copied-next : (j : ℕ) → j < 8192 → j < length t → (x : ℕ) → x ≡ f (entry-of (getD t j no-record))
+      → set (copied-at j) j x ≡ copied-at (j + 1)
   unfolding copied-at
   copied-next j h g x e =
       put-next f (replicate 8192 0) (entries-of t) j x (omega (arith, zeros)) (omega (arith, length-map t entry-of))
@@ -50,7 +50,3 @@ numbers-end t j n e = ap (λ (k : ℕ). numbers-of (entries-of t) k) e
 -- An array in a struct is spelled by its elements, each as it is
 abbrev pub same : List ℕ → List ℕ
 same = map (λ v. v)
-
-pub map-same : (l : List ℕ) → same l ≡ l
-map-same [] = refl
-map-same (x ∷ l) = ap {B = List ℕ} (λ m. x ∷ m) (map-same l)

@@ -1,18 +1,18 @@
 -- What is counted of a table, entry by entry, and what rules 11, 13 and 14 come to by it.
 use mathlib.Core.Path.{_≡_, refl, sym, ap, _∙_}
-use mathlib.Core.Logic.{_⊎_, inl, inr, ⊎-elim}
-use mathlib.Core.Bool.{Bool, true, false, cond, not, _||_, _&&_}
-use mathlib.Core.Option.{Option, none, some}
+use mathlib.Core.Logic.{⊎-elim}
+use mathlib.Core.Bool.{Bool, true, false, cond, _&&_}
+use mathlib.Core.Option.{none, some}
 use mathlib.Core.List.{List, [], _∷_, _++_}
 use Prim.Native.Nat.{ℕ, zero, suc, _+_, _≤_, _<_, min, max}
-use native.Mathlib.Numerals.{add-one}
 use native.Mathlib.Omega.{arith}
 use lib.ListN.{length, getD, length-append}
-use lib.Dec.{eqb, leb, ltb, eqb·suc-zero}
-use borrow.Author.Tests.{lt-ltb, le-ltb, le-leb, lt-leb, eq-eqb, ne-eqb, eqb-true, eqb-false, ltb-true, ltb-false, not-true, not-false}
+use lib.Dec.{eqb, leb, ltb}
+use borrow.Author.Tests.{lt-ltb, le-ltb, le-leb, lt-leb, eqb-true, eqb-false, ltb-true, ltb-false, not-true, not-false}
 use Rattle.theory.specs.Limits
 use Rattle.theory.specs.Word.{Entry}
-use Rattle.theory.specs.TurnedDown.{entry-size, total, bad-entry, first-entry, read-table, table-fault, table-rule-11, table-rule-13, table-rule-14}
+use Rattle.theory.specs.TurnedDown.{total, bad-entry, first-entry, read-table, table-fault, table-rule-11, table-rule-13}
+use Rattle.theory.specs.TurnedDown.{table-rule-14}
 use Rattle.theory.proofs.Words.{entry}
 use Rattle.word.specs.declared.writing.Tally.{Tally}
 use Rattle.word.specs.declared.answers.Read.{Read}
@@ -42,7 +42,8 @@ module _ {A : Type 0} (f : A → Bool) where
   leading-some [] m h = absurd (omega (arith, leading-nil f))
   leading-some (a ∷ l) m h = go (f a) refl (leading-some l m)
     where
-      go : (t : Bool) → f a ≡ t → (leading f l < length l → leading f (l ++ m) ≡ leading f l) → leading f (a ∷ (l ++ m)) ≡ leading f (a ∷ l)
+      go : (t : Bool) → f a ≡ t → (leading f l < length l → leading f (l ++ m) ≡ leading f l)
+          → leading f (a ∷ (l ++ m)) ≡ leading f (a ∷ l)
       go true e r =
           let rest : leading f (l ++ m) ≡ leading f l = r (omega (arith, leading-pass f a l e)) in
           omega (arith, leading-pass f a (l ++ m) e, leading-pass f a l e)
@@ -69,7 +70,8 @@ module _ (t : List Entry) (e : Entry) where
   all-good : length t ≤ g → (b : Bool) → is-good e ≡ b → GoodMore
   all-good h b q = go b q (le-ltb g (length t) h) (leading-all is-good t (e ∷ []) (omega (arith, leading-length is-good t)))
     where
-      go : (b : Bool) → is-good e ≡ b → ltb g (length t) ≡ false → leading is-good (t ++ (e ∷ [])) ≡ length t + leading is-good (e ∷ []) → GoodMore
+      go : (b : Bool) → is-good e ≡ b → ltb g (length t) ≡ false
+          → leading is-good (t ++ (e ∷ [])) ≡ length t + leading is-good (e ∷ []) → GoodMore
       go true q l a = rw (l, q, a) (omega (arith, leading-pass is-good e [] q, leading-nil is-good))
       go false q l a = rw (l, q, a) (omega (arith, leading-fail is-good e [] q, leading-length is-good t))
 
@@ -96,14 +98,16 @@ bad-some n (e ∷ t) h = go (is-good e) refl (bad-some (suc n) t)
     go true q r =
         let more : suc n + leading is-good t ≡ n + leading is-good (e ∷ t) = omega (arith, leading-pass is-good e t q) in
         rw (not-true (is-bad e) q) (r (omega (arith, leading-pass is-good e t q)) ∙ ap some more)
-    go false q r = let here : n ≡ n + leading is-good (e ∷ t) = omega (arith, leading-fail is-good e t q) in rw (not-false (is-bad e) q) (ap some here)
+    go false q r = let here : n ≡ n + leading is-good (e ∷ t) = omega (arith, leading-fail is-good e t q) in rw (not-false (is-bad e) q)
+        (ap some here)
 
 bad-none : (n : ℕ) (t : List Entry) → leading is-good t ≡ length t → first-entry bad-entry n t ≡ none
 unfolding first-entry
 bad-none n [] h = refl
 bad-none n (e ∷ t) h = go (is-good e) refl (bad-none (suc n) t)
   where
-    go : (b : Bool) → is-good e ≡ b → (leading is-good t ≡ length t → first-entry bad-entry (suc n) t ≡ none) → first-entry bad-entry n (e ∷ t) ≡ none
+    go : (b : Bool) → is-good e ≡ b → (leading is-good t ≡ length t → first-entry bad-entry (suc n) t ≡ none)
+        → first-entry bad-entry n (e ∷ t) ≡ none
     go true q r = rw (not-true (is-bad e) q) (r (omega (arith, leading-pass is-good e t q)))
     go false q r = absurd (omega (arith, leading-fail is-good e t q))
 
@@ -166,7 +170,11 @@ module _ (t : List Entry) where
   sizes : 1 ≤ length t → (b : Bool) → ltb Limits.most-symbols (min (total t) (suc Limits.most-symbols)) ≡ b → Answered (by-size b)
   sizes h true e = too-large h (omega (arith, ltb-true Limits.most-symbols (min (total t) (suc Limits.most-symbols)) e))
   sizes h false e =
-      let small : total t ≤ Limits.most-symbols = omega (arith, ltb-false Limits.most-symbols (min (total t) (suc Limits.most-symbols)) e) in
+      let small : total t ≤ Limits.most-symbols = omega (
+        arith,
+        ltb-false Limits.most-symbols (min (total t) (suc Limits.most-symbols))
+            e,
+      ) in
       goods (h, small) (ltb (leading is-good t) (length t)) refl
 
   entries-first : (b : Bool) → eqb (length t) 0 ≡ b → Answered (by-entries b)

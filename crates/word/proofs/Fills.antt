@@ -1,24 +1,24 @@
 -- A lent list that is filled from a table, entry by entry, as a reader of a word that no rule turns down goes along.
-use mathlib.Core.Path.{_≡_, refl, sym, ap, ap₂, _∙_}
+use mathlib.Core.Path.{_≡_, sym, ap₂, _∙_}
 use mathlib.Core.Logic.{_⊎_, inl, inr, ⊎-elim}
-use mathlib.Core.Bool.{Bool, true, false}
-use mathlib.Core.Option.{Option, none, some}
-use mathlib.Core.List.{List, [], _∷_, _++_, map}
-use Prim.Native.Nat.{ℕ, zero, suc, _+_, _-_, _≤_, _<_}
+use mathlib.Core.Option.{none}
+use mathlib.Core.List.{List, _∷_, map}
+use Prim.Native.Nat.{ℕ, suc, _+_, _-_, _≤_, _<_}
 use native.Mathlib.Nat.{eq-zero-or-pos}
 use native.Mathlib.Numerals.{add-one}
 use native.Mathlib.Omega.{arith}
-use lib.ListN.{length, take, drop, getD, set, length-map, List·getD-map}
+use lib.ListN.{length, drop, getD, set, length-map, List·getD-map}
 use lib.Seq.{drop-cons, paste, paste-zero, paste-suc, length-paste, take-all}
 use lib.Dec.{leb}
 use borrow.Author.Tests.{leb-true}
 use Rattle.theory.specs.Limits
 use Rattle.theory.specs.Basics.{or-else}
 use Rattle.theory.specs.Word.{Entry, is-symbol}
-use Rattle.theory.specs.TurnedDown.{word-entries, word-fault, rule-11, rule-12, rule-13, rule-14, entry-fault, first-failing, first-along, done, lent-after}
+use Rattle.theory.specs.TurnedDown.{word-entries, word-fault, rule-11, rule-12, rule-13, rule-14, entry-fault, first-failing, first-along}
+use Rattle.theory.specs.TurnedDown.{done, lent-after}
 use Rattle.theory.proofs.Faults.{none-first, none-second, unless-none, none-refused, and-second}
 use Rattle.theory.proofs.Words.{entry, Formed, formed-of-word}
-use Rattle.word.specs.Scan.{Readable, symbols, kind-number, item-at, ones-at, hashes-at}
+use Rattle.word.specs.Scan.{Readable, symbols, item-at, ones-at, hashes-at}
 use Rattle.word.proofs.Runs.{leading-length, failing-some}
 use Rattle.word.proofs.Along.{Along, along-end, entry-here, item-next, kind-of-some}
 
@@ -37,7 +37,8 @@ module _ {A : Type 0} (f : Entry → A) (lent : List A) (t : List Entry) where
   pub put-length : (i : ℕ) → i ≤ length lent → i ≤ length t → length (put-first f lent t i) ≡ length lent
   put-length i h g = length-paste lent 0 (map f t) i (omega arith) (omega (arith, length-map t f))
 
-  pub put-next : (i : ℕ) (x : A) → i < length lent → i < length t → x ≡ f (getD t i (entry 0 0)) → set (put-first f lent t i) i x ≡ put-first f lent t (i + 1)
+  pub put-next : (i : ℕ) (x : A) → i < length lent → i < length t → x ≡ f (getD t i (entry 0 0))
+      → set (put-first f lent t i) i x ≡ put-first f lent t (i + 1)
   put-next i x h g e =
       let z : i ≡ 0 + i = omega arith in
       let here : x ≡ getD (map f t) i (f (entry 0 0)) = e ∙ sym (List·getD-map f t i (entry 0 0)) in
@@ -62,7 +63,8 @@ module _ (w : List ℕ) (fine : word-fault w ≡ none) where
   pub passed-13 : first-along entry-fault 0 (word-entries w) ≡ none
   unfolding word-fault rule-13
   passed-13 =
-      let rest : or-else (rule-13 (word-entries w)) (rule-14 (word-entries w)) ≡ none = none-second (rule-12 w) _ (none-second (rule-11 w) _ fine) in
+      let rest : or-else (rule-13 (word-entries w)) (rule-14 (word-entries w)) ≡ none = none-second (rule-12 w) _ (none-second (rule-11
+      w) _ fine) in
       none-refused _ 13 (none-first (rule-13 (word-entries w)) (rule-14 (word-entries w)) rest)
 
   known : symbols w ≡ length w
@@ -80,7 +82,8 @@ module _ (w : List ℕ) (fine : word-fault w ≡ none) where
   unfolding word-fault rule-11
   readable = record {
     known = known;
-    short = leb-true (length w) Limits.most-symbols (and-second (leb 1 (length w)) _ (unless-none _ 11 0 (none-first (rule-11 w) _ fine)));
+    short = leb-true (length w) Limits.most-symbols (and-second (leb 1 (length w)) _ (unless-none _ 11 0 (none-first (rule-11 w) _
+        fine)));
   }
 
   module _ (at count : ℕ) (a : Along w at count) (h : count < length (word-entries w)) where
@@ -96,12 +99,14 @@ module _ (w : List ℕ) (fine : word-fault w ≡ none) where
 
     formed : Formed here
     formed =
-        let left : drop count (word-entries w) ≡ here ∷ drop (suc count) (word-entries w) = drop-cons (word-entries w) count (entry 0 0) h in
+        let left : drop count (word-entries w) ≡ here ∷ drop (suc count) (word-entries w) = drop-cons (word-entries w) count (entry 0 0)
+        h in
         (rw left at (formed-of-word at (drop count (word-entries w)) (a .clean ∙ passed-13))) .0
 
     pub item-kind : item-at w at .kind ≡ here .kind
     unfolding item-at
-    item-kind = let f : Formed (entry (ones-at w at) (hashes-at w at)) = rw is-here at formed in rw is-here (kind-of-some (hashes-at w at) (f .kind) (f .at-most))
+    item-kind = let f : Formed (entry (ones-at w at) (hashes-at w at)) = rw is-here at formed in rw is-here (kind-of-some (hashes-at w
+        at) (f .kind) (f .at-most))
 
     pub item-operand : item-at w at .operand ≡ here .operand
     unfolding item-at

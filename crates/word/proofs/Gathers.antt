@@ -1,5 +1,5 @@
 -- A table of records as numbers: what is gathered of it, and what is written of what was gathered.
-use mathlib.Core.Path.{_≡_, refl, sym, ap, subst, _∙_}
+use mathlib.Core.Path.{_≡_, refl, sym, ap, subst}
 use mathlib.Core.Option.{Option, none, some}
 use mathlib.Core.List.{List, [], _∷_, map}
 use Prim.Native.Nat.{ℕ, _≤_, zero-le}
@@ -7,16 +7,15 @@ use native.Mathlib.Omega.{arith}
 use lib.ListN.{length, take, drop, length-map, length-append}
 use lib.Seq.{take-at}
 use Rattle.theory.specs.Word.{Entry}
-use Rattle.theory.specs.TurnedDown.{done, mapped, lent-after, table-fault, read-table}
+use Rattle.theory.specs.TurnedDown.{mapped, lent-after, table-fault, read-table}
 use Rattle.theory.specs.declared.Refusal.{Refusal}
 use Rattle.theory.proofs.Words.{table-good}
 use Rattle.word.specs.declared.answers.Gathered.{Gathered}
-use Rattle.word.specs.declared.answers.Read.{Read}
 use Rattle.word.specs.declared.answers.Read.the-variants.{Done, Refused}
 use Rattle.word.specs.declared.answers.Written.{Written}
 use Rattle.word.specs.declared.answers.Written.the-variants as W
 use Rattle.word.specs.Answers.{zipped, kinds-of, operands-of, no-numbers, read-answer, gathered, WritesInto}
-use Rattle.word.specs.Tables.{tally-of, judged}
+use Rattle.word.specs.Tables.{tally-of}
 use Rattle.word.specs.Records.{answer-count, judged-count, numbers-of, finished, WritesAs}
 use Rattle.word.proofs.Fills.{put-first, put-none, put-all}
 use Rattle.word.proofs.Counts.{judged-tally}
@@ -25,7 +24,8 @@ use Rattle.word.proofs.Copies.{kind-in, operand-in}
 
 module _ (t : List Entry) where
   -- A table is turned down, or all its entries are instructions
-  by-fault : {P : Type 0} (o : Option Refusal) → table-fault t ≡ o → ((r : Refusal) → table-fault t ≡ some r → P) → (table-fault t ≡ none → P) → P
+  by-fault : {P : Type 0} (o : Option Refusal) → table-fault t ≡ o → ((r : Refusal) → table-fault t ≡ some r → P)
+      → (table-fault t ≡ none → P) → P
   by-fault none e down up = up e
   by-fault (some r) e down up = down r e
 

@@ -1,8 +1,8 @@
 -- The entries of a word, one after another: the first of the symbols from a place on, and those behind it.
-use mathlib.Core.Path.{_≡_, refl, sym, ap, ap₂, _∙_}
+use mathlib.Core.Path.{_≡_, refl, sym, ap}
 use mathlib.Core.Bool.{Bool, true, false}
 use mathlib.Core.List.{List, [], _∷_, map}
-use Prim.Native.Nat.{ℕ, zero, suc, _+_, _-_, _≤_, _<_}
+use Prim.Native.Nat.{ℕ, zero, suc, _+_, _≤_, _<_}
 use native.Mathlib.Omega.{arith}
 use lib.ListN.{length, drop, length-drop}
 use lib.Seq.{drop-drop}
@@ -11,7 +11,7 @@ use borrow.Author.Tests.{ne-eqb, eqb-true}
 use Rattle.theory.specs.Word.{Symbol, one, hash, symbol-of, is-symbol, Entry, entries, one-before, hash-before}
 use Rattle.theory.specs.TurnedDown.{word-entries}
 use Rattle.theory.proofs.Words.{entry, entries-first}
-use Rattle.word.specs.Scan.{leading, is-byte, run, symbols, ones-at, hashes-at}
+use Rattle.word.specs.Scan.{is-byte, run, symbols, ones-at, hashes-at}
 use Rattle.word.proofs.Runs.{leading-pass, leading-fail, leading-nil, leading-length}
 
 -- Of symbols
@@ -121,7 +121,8 @@ module _ (w : List ℕ) (k : Known w) (at : ℕ) where
   pub next-past : at < length w → at < next
   next-past h =
       let n : ℕ = ones-at w at in
-      let some : 0 < n + hashes-at w at = rw (behind n) at (front-size (drop at w) (known-drop at w k) (omega (arith, length-drop at w))) in
+      let some : 0 < n + hashes-at w at = rw (behind n) at (front-size (drop at w) (known-drop at w k) (omega (arith, length-drop at w)))
+      in
       omega arith
 
 -- The 1s from a place on, and the # behind them, stand in the word

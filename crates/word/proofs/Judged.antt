@@ -1,6 +1,7 @@
--- What the rules of words come to, as a reader checks them one after another: 11 by the length, 12 by the symbols at the front, then 13 and 14, then 19.
-use mathlib.Core.Path.{_≡_, refl, sym, ap}
-use mathlib.Core.Bool.{Bool, true, false}
+-- What the rules of words come to, as a reader checks them one after another: 11 by the length, 12 by the symbols at the front, then 13
+-- and 14, then 19.
+use mathlib.Core.Path.{_≡_, refl, ap}
+use mathlib.Core.Bool.{true}
 use mathlib.Core.Option.{Option, none, some}
 use mathlib.Core.List.{List}
 use Prim.Native.Nat.{ℕ, _+_, _≤_, _<_}
@@ -12,9 +13,8 @@ use Rattle.theory.specs.Word.{is-symbol}
 use Rattle.theory.specs.Machines.{is-limited}
 use Rattle.theory.specs.TurnedDown.{lent-after, read-word, word-entries, word-fault, rule-11, rule-12, rule-19}
 use Rattle.theory.specs.declared.Refusal.{Refusal}
-use Rattle.word.specs.declared.answers.Read.{Read}
 use Rattle.word.specs.declared.answers.Read.the-variants.{Done, Refused}
-use Rattle.word.specs.Answers.{read-answer, read-into, ReadsInto}
+use Rattle.word.specs.Answers.{read-answer, read-into, Reads}
 use Rattle.word.specs.Scan.{symbols, scan-answer, Filled}
 use Rattle.word.proofs.Runs.{failing-some, failing-none}
 use Rattle.word.proofs.Items.{Known}
@@ -53,21 +53,22 @@ module _ (w : List ℕ) where
       go (some r) e = absurd (let g : Done n ≡ Refused r = rw e at h in let x : _≡_ {A = ℕ} 0 1 = cc in omega arith)
 
   module _ (kinds operands : List ℕ) where
-    pub read-refused : (r : Refusal) → Refused r ≡ read-answer (read-word w) → ReadsInto w kinds operands (Refused r) kinds operands
+    pub read-refused : (r : Refusal) → Refused r ≡ read-answer (read-word w) → Reads w kinds operands (Refused r) kinds operands
     unfolding read-word read-into lent-after
     read-refused r h = go (word-fault w) refl
       where
-        go : (o : Option Refusal) → word-fault w ≡ o → ReadsInto w kinds operands (Refused r) kinds operands
+        go : (o : Option Refusal) → word-fault w ≡ o → Reads w kinds operands (Refused r) kinds operands
         go none e = absurd (let g : Refused r ≡ Done (length (word-entries w)) = rw e at h in let x : _≡_ {A = ℕ} 0 1 = cc in omega arith)
         go (some s) e = let g : Refused r ≡ Refused s = rw e at h in (rw e g, rw e, rw e)
 
     module _ (fine : word-fault w ≡ none) where
-      pub kinds-short : length kinds < length (word-entries w) → ReadsInto w kinds operands (Refused (record { number = 19; place = 0 })) kinds operands
+      pub kinds-short : length kinds < length (word-entries w) → Reads w kinds operands (Refused (record { number = 19; place = 0 }))
+          kinds operands
       unfolding read-word read-into rule-19 lent-after
       kinds-short h = let n : _ = lt-leb (length (word-entries w)) (length kinds) h in (rw (fine, n), rw (fine, n), rw (fine, n))
 
       pub operands-short : length (word-entries w) ≤ length kinds → length operands < length (word-entries w)
-          → ReadsInto w kinds operands (Refused (record { number = 19; place = 0 })) kinds operands
+          → Reads w kinds operands (Refused (record { number = 19; place = 0 })) kinds operands
       unfolding read-word read-into rule-19 lent-after
       operands-short g h =
           let m : _ = le-leb (length (word-entries w)) (length kinds) g in
@@ -76,7 +77,7 @@ module _ (w : List ℕ) where
 
       pub both-fit : length (word-entries w) ≤ length kinds → length (word-entries w) ≤ length operands
           → (n : ℕ) → n ≡ length (word-entries w) → (kinds′ operands′ : List ℕ) → Filled w kinds operands kinds′ operands′
-          → ReadsInto w kinds operands (Done n) kinds′ operands′
+          → Reads w kinds operands (Done n) kinds′ operands′
       unfolding read-word read-into rule-19
       both-fit g h n e kinds′ operands′ f =
           let m : _ = le-leb (length (word-entries w)) (length kinds) g in

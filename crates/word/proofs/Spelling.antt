@@ -8,14 +8,13 @@ use native.Mathlib.Omega.{arith}
 use lib.ListN.{length, take, drop, getD, set, replicate, length-map, length-replicate, take-append-drop, replicate-append-replicate}
 use lib.Seq.{sets, length-sets, sets-eq, take-suc, take-all}
 use borrow.Author.Tests.{le-leb, lt-leb}
-use Rattle.theory.specs.Limits
-use Rattle.theory.specs.Word.{Symbol, one, hash, Entry, byte-of, bytes-of, spell-entries}
+use Rattle.theory.specs.Word.{one, hash, Entry, byte-of, bytes-of, spell-entries}
 use Rattle.theory.specs.TurnedDown.{total, table-fault, read-table, rule-19, lent-after}
 use Rattle.theory.specs.declared.Refusal.{Refusal}
 use Rattle.theory.proofs.Words.{entry, total-length, table-good}
 use Rattle.word.specs.declared.answers.Read.the-variants as R
 use Rattle.word.specs.declared.answers.Written.the-variants.{Done, Refused}
-use Rattle.word.specs.Answers.{read-answer, written-answer, write-into, WritesInto}
+use Rattle.word.specs.Answers.{read-answer, write-into, WritesInto}
 use Rattle.word.specs.Tables.{spelt}
 use Rattle.word.proofs.Along.{total-append}
 
@@ -86,7 +85,13 @@ module _ (t : List Entry) (word : List ℕ) where
         let before : List ℕ = bytes-of (spell-entries (take i t)) in
         let place : total (take i t) ≡ 0 + length before = omega (arith, bytes-length (take i t)) in
         let more : before ++ entry-bytes here ≡ bytes-of (spell-entries (take (i + 1) t)) =
-        rw (taken, spell-append (take i t) (here ∷ []), map-append byte-of (spell-entries (take i t)) (spell-entries (here ∷ [])), spell-one here) in
+        rw (
+          taken,
+          spell-append (take i t) (here ∷ []),
+          map-append byte-of (spell-entries (take i t)) (spell-entries (here ∷
+              [])),
+          spell-one here,
+        ) in
         ap (λ (k : ℕ). sets (sets word 0 before) k (entry-bytes here)) place
         ∙ sets-append word 0 before (entry-bytes here)
         ∙ ap (λ (l : List ℕ). sets word 0 l) more

@@ -1,12 +1,12 @@
 -- A table of records that is filled from a word: its entries after so many turns, and where the next instruction starts.
-use mathlib.Core.Path.{_≡_, refl, sym, ap, subst, _∙_}
+use mathlib.Core.Path.{_≡_, refl, sym, ap, _∙_}
 use mathlib.Core.Bool.{Bool, true, false}
 use mathlib.Core.Option.{Option, none, some}
 use mathlib.Core.List.{List}
 use Prim.Native.Nat.{ℕ, zero, suc, _+_, _≤_, _<_}
 use native.Mathlib.Numerals.{add-one}
 use native.Mathlib.Omega.{arith}
-use lib.ListN.{length, take, getD, set}
+use lib.ListN.{length, take, set}
 use Rattle.theory.specs.Word.{Entry}
 use lib.Dec.{leb}
 use borrow.Author.Tests.{leb-true}
@@ -78,7 +78,8 @@ module _ (w : List ℕ) (n : ℕ) (table : List Instruction) (p : Storable w n t
       start-more = rw q (item-along w fine (start w j) j here inside .start)
 
 -- The whole reader: what it measured, what it stored, and what it hands back
-module _ (w : List ℕ) (table : List Instruction) (r : Read) (n : ℕ) (m : r ≡ read-answer (measured (length table) w)) (c : n ≡ answer-count r) where
+module _ (w : List ℕ) (table : List Instruction) (r : Read) (n : ℕ) (m : r ≡ read-answer (measured (length table) w)) (c : n ≡
+    answer-count r) where
   abbrev t : List Entry
   t = word-entries w
 

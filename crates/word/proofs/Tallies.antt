@@ -1,13 +1,12 @@
 -- The tally of a table of records after so many turns.
-use mathlib.Core.Path.{_≡_, refl, sym, ap, _∙_}
+use mathlib.Core.Path.{_≡_, sym, ap}
 use mathlib.Core.List.{List, [], _∷_, _++_}
-use Prim.Native.Nat.{ℕ, suc, _+_, _≤_, _<_, _^_, min}
+use Prim.Native.Nat.{ℕ, suc, _+_, _≤_, _<_, _^_}
 use native.Mathlib.Numerals.{add-one}
 use native.Mathlib.Omega.{arith}
 use lib.ListN.{length, take, getD, length-map, List·getD-map}
 use lib.Seq.{length-take-le, take-suc, take-all}
 use Rattle.theory.specs.Word.{Entry}
-use Rattle.theory.specs.TurnedDown.{total}
 use Rattle.theory.proofs.Words.{entry}
 use Rattle.word.specs.declared.answers.Instruction.{Instruction}
 use Rattle.word.specs.declared.writing.Tally.{Tally}

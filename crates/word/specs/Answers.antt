@@ -1,4 +1,5 @@
--- What this crate's entries hand back, by the definitions of crate theory: tables, as two lists of numbers or as a list of records, and answers.
+-- What this crate's entries hand back, by the definitions of crate theory: tables, as two lists of numbers or as a list of records, and
+-- answers.
 use mathlib.Core.Path.{_≡_}
 use mathlib.Core.List.{List, [], _∷_, map}
 use Prim.Native.Nat.{ℕ}
@@ -58,8 +59,8 @@ unfoldable pub read-into : List ℕ → List ℕ → List ℕ → Answer (List E
 read-into kinds operands w = after (read-word w) λ t. answer (or-else (rule-19 kinds t) (rule-19 operands t)) t
 
 -- What is handed back, and the lent lists then
-abbrev pub ReadsInto : (word kinds operands : List ℕ) → Read → (kinds′ operands′ : List ℕ) → Type 0
-ReadsInto word kinds operands r kinds′ operands′ =
+abbrev pub Reads : (word kinds operands : List ℕ) → Read → (kinds′ operands′ : List ℕ) → Type 0
+Reads word kinds operands r kinds′ operands′ =
     (r ≡ read-answer (read-into kinds operands word))
     × (kinds′ ≡ lent-after kinds (mapped kinds-of (read-into kinds operands word)))
     × (operands′ ≡ lent-after operands (mapped operands-of (read-into kinds operands word)))

@@ -1,14 +1,14 @@
 -- What the functions inside this crate hand back: runs of a byte, and the items of a word.
 use mathlib.Core.Path.{_≡_}
-use mathlib.Core.Bool.{Bool, true, false, cond}
-use mathlib.Core.Option.{Option, none}
+use mathlib.Core.Bool.{Bool, cond}
+use mathlib.Core.Option.{none}
 use mathlib.Core.List.{List, [], _∷_}
 use Prim.Native.Nat.{ℕ, suc, _+_, _≤_}
 use lib.ListN.{length, drop}
 use lib.Dec.{eqb}
 use Rattle.theory.specs.Limits
 use Rattle.theory.specs.Basics.{or-else}
-use Rattle.theory.specs.Word.{Entry, is-symbol}
+use Rattle.theory.specs.Word.{is-symbol}
 use Rattle.theory.specs.Machines.{is-limited}
 use Rattle.theory.specs.TurnedDown.{done, answer, word-entries, word-fault, rule-13, rule-14, lent-after}
 use Rattle.word.specs.declared.reading.Item.{Item}

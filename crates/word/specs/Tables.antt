@@ -1,6 +1,6 @@
 -- What the functions inside this crate count of a table and write of it.
 use mathlib.Core.Bool.{Bool, cond, not, _||_}
-use mathlib.Core.List.{List, [], _∷_}
+use mathlib.Core.List.{List}
 use Prim.Native.Nat.{ℕ, suc, _+_, _≤_, min}
 use lib.ListN.{length, take}
 use lib.Seq.{sets}
@@ -8,7 +8,7 @@ use lib.Dec.{eqb, ltb}
 use Rattle.theory.specs.Limits
 use Rattle.theory.specs.Word.{Entry, spell-entries, bytes-of}
 use Rattle.theory.specs.Machines.{is-limited}
-use Rattle.theory.specs.TurnedDown.{entry-size, total}
+use Rattle.theory.specs.TurnedDown.{total}
 use Rattle.word.specs.declared.answers.Read.{Read}
 use Rattle.word.specs.declared.answers.Read.the-variants.{Done, Refused}
 use Rattle.word.specs.declared.writing.Tally.{Tally}

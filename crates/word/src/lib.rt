@@ -1,5 +1,5 @@
-// Words and instruction tables. Reading a word fills a lent table, and writing spells a table into a lent word. A table is two slices of numbers,
-// kinds and operands, or one slice of records.
+// Words and instruction tables. Reading a word fills a lent table, and writing spells a table into a lent word. A table is two slices of
+// numbers, kinds and operands, or one slice of records.
 mod answers;
 mod reading;
 mod records;

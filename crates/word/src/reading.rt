@@ -3,7 +3,7 @@ ghost use mathlib.Core.Path.{_≡_};
 ghost use Prim.Native.Nat.{_+_, _≤_};
 ghost use lib.ListN.{length, drop};
 ghost use Rattle.theory.specs.TurnedDown.{read-word};
-ghost use Rattle.word.specs.Answers.{read-answer, ReadsInto};
+ghost use Rattle.word.specs.Answers.{read-answer, Reads};
 ghost use Rattle.word.specs.Scan.{run, symbols, kind-number, item-at, fault-place, Readable, scan-answer, Fillable, Filled};
 use crate::answers::Instruction;
 use crate::answers::Read;
@@ -74,8 +74,8 @@ pub fn item_at(word: &[u8], at: usize) -> Item
     }
 }
 
-// Where an item that starts at `at` and is no instruction has its fault: at its start where it has no 1, at its end where it has no #, and else at its
-// sixth #.
+// Where an item that starts at `at` and is no instruction has its fault: at its start where it has no 1, at its end where it has no #,
+// and else at its sixth #.
 fn fault_place(at: usize, e: Item) -> usize
     requires { ⌜ at + e .operand ≤ 600000 ⌝ }
     ensures { λ r. ⌜ r ≡ fault-place at e ⌝ }
@@ -155,7 +155,7 @@ fn fill(word: &[u8], count: usize, kinds: &mut [u8], operands: &mut [u32])
 
 // Reads a word into lent kinds and operands: rules 11 to 14, then 19.
 pub fn read(word: &[u8], kinds: &mut [u8], operands: &mut [u32]) -> Read
-    ensures { λ r. ⌜ ReadsInto (now (word .entry)) (now (kinds .entry)) (now (operands .entry)) r (now (kinds .exit)) (now (operands .exit)) ⌝ }
+    ensures { λ r. ⌜ Reads (now (word .entry)) (now (kinds .entry)) (now (operands .entry)) r (now (kinds .exit)) (now (operands .exit)) ⌝ }
 {
     match measure(word) {
         Read::Done(count) => {

@@ -1,11 +1,12 @@
-// The same over an instruction table of records: thin functions over those on numbers. Each one that has the records in hand is free of branches: where
-// a rule turns its input down, the count handed to it is 0.
+// The same over an instruction table of records: thin functions over those on numbers. Each one that has the records in hand is free of
+// branches: where a rule turns its input down, the count handed to it is 0.
 ghost use mathlib.Core.Path.{_≡_};
 ghost use Prim.Native.Nat.{_≤_};
-ghost use lib.ListN.{length, take};
-ghost use Rattle.word.specs.Answers.{zipped, entries-of, read-answer, ReadsTable, WritesInto, gathered};
+ghost use lib.ListN.{length};
+ghost use Rattle.word.specs.Answers.{entries-of, read-answer, ReadsTable, WritesInto, gathered};
 ghost use Rattle.word.specs.Tables.{tally-of};
-ghost use Rattle.word.specs.Records.{answer-count, measured, Storable, stored, no-tally, judged-count, numbers-of, finished, WritesAs};
+ghost use Rattle.word.specs.Records.{answer-count, measured, Storable, stored};
+ghost use Rattle.word.specs.Records.{no-tally, judged-count, numbers-of, finished, WritesAs};
 use crate::answers::Gathered;
 use crate::answers::Instruction;
 use crate::answers::Read;
@@ -155,7 +156,7 @@ pub fn gather(table: &[Instruction]) -> Gathered
 // Writes the first `n` entries of a table of numbers.
 fn write_first(kinds: &[u8], operands: &[u32], n: usize, word: &mut [u8]) -> Written
     requires { ⌜ (n ≤ length (now kinds)) × (n ≤ length (now operands)) ⌝ }
-    ensures { λ r. ⌜ WritesInto (zipped (take n (now (kinds .entry))) (take n (now (operands .entry)))) (now (word .entry)) r (now (word .exit)) ⌝ }
+    ensures { λ r. ⌜ WritesAs (Read.Done n) (now (kinds .entry)) (now (operands .entry)) (now (word .entry)) r (now (word .exit)) ⌝ }
 {
     write(&kinds[..n], &operands[..n], word)
 }

@@ -13,8 +13,8 @@ use crate::answers::Written;
 use crate::answers::refused;
 use theory::Refusal;
 
-// What is counted of a table's first entries: their symbols, or one more than a word may have; how many are good before the first bad one; how many
-// there are.
+// What is counted of a table's first entries: their symbols, or one more than a word may have; how many are good before the first bad
+// one; how many there are.
 pub struct Tally {
     pub size: usize,
     pub good: usize,
@@ -145,7 +145,8 @@ fn put_run(word: &mut [u8], at: usize, n: usize, byte: u8)
 // Writes an entry at `at`, and says where it ends.
 fn put_entry(word: &mut [u8], at: usize, kind: u8, operand: u32) -> usize
     requires { ⌜ at + (operand + kind) ≤ length (now word) ⌝ }
-    ensures { λ r. ⌜ (r ≡ at + (operand + kind)) × (now (word .exit) ≡ sets (now (word .entry)) at (replicate operand 49 ++ replicate kind 35)) ⌝ }
+    ensures ends { λ r. ⌜ r ≡ at + (operand + kind) ⌝ }
+    ensures writes { λ _. ⌜ now (word .exit) ≡ sets (now (word .entry)) at (replicate operand 49 ++ replicate kind 35) ⌝ }
 {
     let ones = operand as usize;
     let hashes = kind as usize;

@@ -1,5 +1,5 @@
--- `fill` meets its contract. The loop's invariant: the entries before `at` are `i`, and the lent lists begin with their kinds and operands. What is
--- left of the count falls.
+-- `fill` meets its contract. The loop's invariant: the entries before `at` are `i`, and the lent lists begin with their kinds and
+-- operands. What is left of the count falls.
 use mathlib.Core.Path.{_≡_, ap, _∙_}
 use mathlib.Core.List.{List}
 use Prim.Native.Nat.{ℕ, _+_, _-_, _≤_, _<_}
@@ -37,7 +37,8 @@ module _ (w : List ℕ) (count : ℕ) (kinds₀ operands₀ : List ℕ) (p : Fil
   kinds-length = ap length (s .kinds-put) ∙ put-length kind-in kinds₀ t i (omega (arith, within, p .kinds-room)) (s .along .passed)
 
   operands-length : length operands ≡ length operands₀
-  operands-length = ap length (s .operands-put) ∙ put-length operand-in operands₀ t i (omega (arith, within, p .operands-room)) (s .along .passed)
+  operands-length = ap length (s .operands-put) ∙ put-length operand-in operands₀ t i (omega (arith, within, p .operands-room)) (s .along
+      .passed)
 
   filling-next : i < count → (e : Item) → e ≡ item-at w at
       → Filling w kinds₀ operands₀ (set kinds i (e .kind)) (set operands i (e .operand)) (e .next) (i + 1)
@@ -51,7 +52,8 @@ module _ (w : List ℕ) (count : ℕ) (kinds₀ operands₀ : List ℕ) (p : Fil
             (put-next kind-in kinds₀ t i (item-at w at .kind) (omega (arith, p .kinds-room)) m (item-kind w (p .passed) at i a m));
         operands-put =
             rw (q, s .operands-put)
-            (put-next operand-in operands₀ t i (item-at w at .operand) (omega (arith, p .operands-room)) m (item-operand w (p .passed) at i a m));
+            (put-next operand-in operands₀ t i (item-at w at .operand) (omega (arith, p .operands-room)) m (item-operand w (p .passed) at
+            i a m));
       }
 
   filled : count ≤ i → Filled w kinds₀ operands₀ kinds operands
@@ -87,21 +89,38 @@ slice-write-kinds c =
     let l : _ = c .before .before .loop in
     let s : _ = c .before .before .before .before .before .before in
     let a : _ = s .args in
-    omega (arith, kinds-length (a .word .now) (a .count) (a .kinds .now) (a .operands .now) (s .pre) (l .kinds) (l .operands) (l .at) (l .i) (l .inv), s .pre .kinds-room)
+    omega (
+      arith,
+      kinds-length (a .word .now) (a .count) (a .kinds .now) (a .operands .now) (s .pre) (l .kinds) (l .operands) (l .at) (l
+          .i) (l .inv),
+      s .pre .kinds-room,
+    )
 
 mul-operands : tie.Need-mul-operands Inv-loop μ-loop
 mul-operands c =
     let l : _ = c .before .before .loop in
     let s : _ = c .before .before .before .before .before .before in
     let a : _ = s .args in
-    record { fits = omega (arith, operands-length (a .word .now) (a .count) (a .kinds .now) (a .operands .now) (s .pre) (l .kinds) (l .operands) (l .at) (l .i) (l .inv), s .pre .operands-room) }
+    record {
+      fits = omega (
+        arith,
+        operands-length (a .word .now) (a .count) (a .kinds .now) (a .operands .now) (s .pre) (l .kinds) (l
+            .operands) (l .at) (l .i) (l .inv),
+        s .pre .operands-room,
+      );
+    }
 
 slice-write-operands : tie.Need-slice-write-operands Inv-loop μ-loop
 slice-write-operands c =
     let l : _ = c .before .before .loop in
     let s : _ = c .before .before .before .before .before .before in
     let a : _ = s .args in
-    omega (arith, operands-length (a .word .now) (a .count) (a .kinds .now) (a .operands .now) (s .pre) (l .kinds) (l .operands) (l .at) (l .i) (l .inv), s .pre .operands-room)
+    omega (
+      arith,
+      operands-length (a .word .now) (a .count) (a .kinds .now) (a .operands .now) (s .pre) (l .kinds) (l .operands) (l .at)
+          (l .i) (l .inv),
+      s .pre .operands-room,
+    )
 
 add-i : tie.Need-add-i Inv-loop μ-loop
 add-i c = omega arith
@@ -114,7 +133,8 @@ loop-again c =
     let l : _ = c .before .before .loop in
     let s : _ = c .before .before .before .before .before .before in
     let a : _ = s .args in
-    filling-next (a .word .now) (a .count) (a .kinds .now) (a .operands .now) (s .pre) (l .kinds) (l .operands) (l .at) (l .i) (l .inv) (c .before .loop-test .taken) (c .item-at .result) (c .item-at .ensures)
+    filling-next (a .word .now) (a .count) (a .kinds .now) (a .operands .now) (s .pre) (l .kinds) (l .operands) (l .at) (l .i) (l .inv)
+    (c .before .loop-test .taken) (c .item-at .result) (c .item-at .ensures)
 
 same-length : tie.Need-same-length Inv-loop μ-loop
 same-length c =
@@ -135,7 +155,8 @@ returns c =
     let l : _ = c .before .loop in
     let s : _ = c .before .before .before .before .before in
     let a : _ = s .args in
-    filled (a .word .now) (a .count) (a .kinds .now) (a .operands .now) (s .pre) (l .kinds) (l .operands) (l .at) (l .i) (l .inv) (c .loop-test .left)
+    filled (a .word .now) (a .count) (a .kinds .now) (a .operands .now) (s .pre) (l .kinds) (l .operands) (l .at) (l .i) (l .inv) (c
+    .loop-test .left)
 
 pub fill-spec : {M : Type 1} → statement M
 fill-spec =

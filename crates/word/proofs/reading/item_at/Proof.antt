@@ -26,7 +26,12 @@ run-end-requires c κs = search needs
 
 run-end-requires-2 : tie.Need-run-end-requires-2
 run-end-requires-2 c κs =
-    omega (arith, c .run-end .ensures, ones-within (c .before .before .args .word .now) (c .before .before .args .at) (c .before .before .pre .0))
+    omega (
+      arith,
+      c .run-end .ensures,
+      ones-within (c .before .before .args .word .now) (c .before .before .args .at) (c .before .before
+          .pre .0),
+    )
 
 sub-kind-of : tie.Need-sub-kind-of
 sub-kind-of c = search needs
@@ -45,7 +50,8 @@ cast-t8 c =
 returns : tie.Need-returns
 returns c =
     let s : _ = c .before .before .before .before in
-    the-item (s .args .word .now) (s .args .at) _ _ _ (c .before .before .run-end .ensures) (c .before .run-end2 .ensures) (c .kind-of .ensures)
+    the-item (s .args .word .now) (s .args .at) _ _ _ (c .before .before .run-end .ensures) (c .before .run-end2 .ensures) (c .kind-of
+    .ensures)
 
 pub item-at-spec : {M : Type 1} → statement M
 item-at-spec =

@@ -51,7 +51,8 @@ scan-requires c κs =
 returns-4 : tie.Need-returns-4
 returns-4 c =
     let w : List ℕ = c .before .before .before .before .before .before .args .word .now in
-    c .scan .ensures ∙ known-symbols w (omega arith, omega arith) (all-known w _ (c .before .before .symbols-end .ensures) (c .before .if3 .left))
+    c .scan .ensures ∙ known-symbols w (omega arith, omega arith) (all-known w _ (c .before .before .symbols-end .ensures) (c .before
+    .if3 .left))
 
 pub measure-spec : {M : Type 1} → statement M
 measure-spec =

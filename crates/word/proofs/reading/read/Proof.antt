@@ -1,7 +1,5 @@
 -- `read` meets its contract: what `measure` answers, then rule 19 for each lent list, and then what `fill` puts there.
-use mathlib.Core.Path.{_≡_, sym, _∙_}
-use mathlib.Core.List.{List}
-use Prim.Native.Nat.{ℕ}
+use mathlib.Core.Path.{sym, _∙_}
 use native.Mathlib.Omega.{arith}
 use Rattle.word.proofs.Judged.{measured, read-refused, kinds-short, operands-short, both-fit}
 use borrow.Author.Needs.{needs}
@@ -33,15 +31,26 @@ returns-2 c =
     let a : _ = c .before .before .before .before .before .before .before .before .before .before .args in
     let n : _ = c .before .before .before .before .count .given in
     let m : _ = measured (a .word .now) (n .0 .0) (sym (n .1) ∙ c .before .before .before .before .before .before .measure .ensures) in
-    let x : _ = operands-short (a .word .now) (a .kinds .now) (a .operands .now) (m .0) (omega (arith, m .1, c .before .before .if1 .left)) (omega (arith, m .1, c .before .if2 .taken)) in
+    let x : _ = operands-short (a .word .now) (a .kinds .now) (a .operands .now) (m .0) (omega (
+      arith,
+      m .1,
+      c .before .before .if1
+          .left,
+    )) (omega (arith, m .1, c .before .if2 .taken)) in
     (c .refused2 .ensures ∙ x .0, x .1, x .2)
 
 fill-requires : tie.Need-fill-requires
 fill-requires c κs =
     let a : _ = c .before .before .before .before .before .before .before .before .before .before .before .args in
     let n : _ = c .before .before .before .before .before .count .given in
-    let m : _ = measured (a .word .now) (n .0 .0) (sym (n .1) ∙ c .before .before .before .before .before .before .before .measure .ensures) in
-    record { passed = m .0; whole = m .1; kinds-room = c .before .before .before .if1 .left; operands-room = c .before .before .if2 .left }
+    let m : _ = measured (a .word .now) (n .0 .0) (sym (n .1) ∙ c .before .before .before .before .before .before .before .measure
+    .ensures) in
+    record {
+      passed = m .0;
+      whole = m .1;
+      kinds-room = c .before .before .before .if1 .left;
+      operands-room = c .before .before .if2 .left;
+    }
 
 enum-known-r : tie.Need-enum-known-r
 enum-known-r c = search needs
@@ -54,11 +63,18 @@ same-length-2 c = search needs
 
 returns-3 : tie.Need-returns-3
 returns-3 c =
-    let a : _ = c .before .before .before .before .before .before .before .before .before .before .before .before .before .before .before .before .args in
+    let a : _ = c .before .before .before .before .before .before .before .before .before .before .before .before .before .before .before
+    .before .args in
     let n : _ = c .before .before .before .before .before .before .before .before .before .before .count .given in
-    let m : _ = measured (a .word .now) (n .0 .0) (sym (n .1) ∙ c .before .before .before .before .before .before .before .before .before .before .before .before .measure .ensures) in
+    let m : _ = measured (a .word .now) (n .0 .0) (sym (n .1) ∙ c .before .before .before .before .before .before .before .before .before
+    .before .before .before .measure .ensures) in
     let f : _ = c .before .before .before .before .fill in
-    both-fit (a .word .now) (a .kinds .now) (a .operands .now) (m .0) (omega (arith, m .1, c .before .before .before .before .before .before .before .before .if1 .left)) (omega (arith, m .1, c .before .before .before .before .before .before .before .if2 .left))
+    both-fit (a .word .now) (a .kinds .now) (a .operands .now) (m .0) (omega (
+      arith,
+      m .1,
+      c .before .before .before .before .before
+          .before .before .before .if1 .left,
+    )) (omega (arith, m .1, c .before .before .before .before .before .before .before .if2 .left))
     (n .0 .0) (m .1) (f .last .1 .1 .0) (f .last .1 .1 .1 .0) (f .ensures)
 
 returns-4 : tie.Need-returns-4

@@ -1,4 +1,5 @@
--- `run_end` meets its contract. The loop's invariant: the run from here ends where the run from the start ends. What is left of the word falls.
+-- `run_end` meets its contract. The loop's invariant: the run from here ends where the run from the start ends. What is left of the word
+-- falls.
 use mathlib.Core.Path.{_≡_, refl}
 use Prim.Native.Nat.{_+_, _-_, _≤_}
 use native.Mathlib.Omega.{arith}

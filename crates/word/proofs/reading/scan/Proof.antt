@@ -1,5 +1,5 @@
--- `scan` meets its contract. The loop's invariant: the entries before `at` are `count`, without a fault of rule 13, and where they are more than a
--- word may have, `extra` is where the first too many starts. What is left of the word falls.
+-- `scan` meets its contract. The loop's invariant: the entries before `at` are `count`, without a fault of rule 13, and where they are
+-- more than a word may have, `extra` is where the first too many starts. What is left of the word falls.
 use mathlib.Core.Path.{_≡_, ap, _∙_}
 use mathlib.Core.Logic.{_⊎_, inl, inr, ⊎-elim}
 use mathlib.Core.List.{List}
@@ -29,8 +29,10 @@ operand-within : (w : List ℕ) (at : ℕ) (e : Item) → at ≤ length w → e 
 unfolding item-at
 operand-within w at e h q = let o : e .operand ≡ ones-at w at = ap (λ (j : Item). j .operand) q in omega (arith, ones-within w at h)
 
-module _ (w : List ℕ) (known : Known w) (at count extra : ℕ) (s : Scanning w at count extra) (h : at < length w) (e : Item) (q : e ≡ item-at w at) where
-  faulty : (place : ℕ) (r : Read) → (e .operand ≡ 0) ⊎ (e .kind ≡ 0) → place ≡ fault-place at e → r ≡ Refused (record { number = 13; place = place })
+module _ (w : List ℕ) (known : Known w) (at count extra : ℕ) (s : Scanning w at count extra) (h : at < length w) (e : Item) (q : e ≡
+    item-at w at) where
+  faulty : (place : ℕ) (r : Read) → (e .operand ≡ 0) ⊎ (e .kind ≡ 0) → place ≡ fault-place at e
+      → r ≡ Refused (record { number = 13; place = place })
       → r ≡ scan-answer w
   faulty place r f p a = rw (a, p, q) (item-fault w known at count (s .along) h (rw q at f))
 
@@ -70,7 +72,12 @@ fault-place-requires : tie.Need-fault-place-requires Inv-loop μ-loop
 fault-place-requires c κs =
     let l : _ = c .before .before .before .before .loop in
     let s : _ = c .before .before .before .before .before .before in
-    omega (arith, operand-within (s .args .word .now) (l .at) (c .before .before .item-at .result) (l .inv .along .reached) (c .before .before .item-at .ensures), s .pre .short)
+    omega (
+      arith,
+      operand-within (s .args .word .now) (l .at) (c .before .before .item-at .result) (l .inv .along .reached) (c .before
+          .before .item-at .ensures),
+      s .pre .short,
+    )
 
 refused-requires : tie.Need-refused-requires Inv-loop μ-loop
 refused-requires c κs = search needs
@@ -80,14 +87,21 @@ returns c =
     let l : _ = c .before .before .before .before .before .before .loop in
     let s : _ = c .before .before .before .before .before .before .before .before in
     let i : _ = c .before .before .before .before .item-at in
-    faulty (s .args .word .now) (s .pre .known) (l .at) (l .count) (l .extra) (l .inv) (c .before .before .before .before .before .loop-test .taken) (i .result) (i .ensures)
-    (c .before .fault-place .result) (c .refused .result) (inl (c .before .before .if1 .taken)) (c .before .fault-place .ensures) (c .refused .ensures)
+    faulty (s .args .word .now) (s .pre .known) (l .at) (l .count) (l .extra) (l .inv) (c .before .before .before .before .before
+    .loop-test .taken) (i .result) (i .ensures)
+    (c .before .fault-place .result) (c .refused .result) (inl (c .before .before .if1 .taken)) (c .before .fault-place .ensures) (c
+    .refused .ensures)
 
 fault-place-requires-2 : tie.Need-fault-place-requires-2 Inv-loop μ-loop
 fault-place-requires-2 c κs =
     let l : _ = c .before .before .before .before .before .before .loop in
     let s : _ = c .before .before .before .before .before .before .before .before in
-    omega (arith, operand-within (s .args .word .now) (l .at) (c .before .before .before .before .item-at .result) (l .inv .along .reached) (c .before .before .before .before .item-at .ensures), s .pre .short)
+    omega (
+      arith,
+      operand-within (s .args .word .now) (l .at) (c .before .before .before .before .item-at .result) (l .inv .along
+          .reached) (c .before .before .before .before .item-at .ensures),
+      s .pre .short,
+    )
 
 refused-requires-2 : tie.Need-refused-requires-2 Inv-loop μ-loop
 refused-requires-2 c κs = search needs
@@ -97,28 +111,44 @@ returns-2 c =
     let l : _ = c .before .before .before .before .before .before .before .before .loop in
     let s : _ = c .before .before .before .before .before .before .before .before .before .before in
     let i : _ = c .before .before .before .before .before .before .item-at in
-    faulty (s .args .word .now) (s .pre .known) (l .at) (l .count) (l .extra) (l .inv) (c .before .before .before .before .before .before .before .loop-test .taken) (i .result) (i .ensures)
-    (c .before .fault-place2 .result) (c .refused2 .result) (inr (c .before .before .if2 .taken)) (c .before .fault-place2 .ensures) (c .refused2 .ensures)
+    faulty (s .args .word .now) (s .pre .known) (l .at) (l .count) (l .extra) (l .inv) (c .before .before .before .before .before .before
+    .before .loop-test .taken) (i .result) (i .ensures)
+    (c .before .fault-place2 .result) (c .refused2 .result) (inr (c .before .before .if2 .taken)) (c .before .fault-place2 .ensures) (c
+    .refused2 .ensures)
 
 add-count : tie.Need-add-count Inv-loop μ-loop
 add-count c =
     let l : _ = c .before .before .before .before .before .before .before .loop in
-    record { fits = omega (arith, l .inv .fewer, l .inv .along .reached, c .before .before .before .before .before .before .before .before .before .pre .short) }
+    record {
+      fits = omega (
+        arith,
+        l .inv .fewer,
+        l .inv .along .reached,
+        c .before .before .before .before .before .before .before
+            .before .before .pre .short,
+      );
+    }
 
 loop-less : tie.Need-loop-less Inv-loop μ-loop
 loop-less c =
     let l : _ = c .before .before .before .before .before .before .before .loop in
     let s : _ = c .before .before .before .before .before .before .before .before .before in
     let i : _ = c .before .before .before .before .before .item-at in
-    nearer (s .args .word .now) (s .pre .known) (l .at) (l .count) (l .extra) (l .inv) (c .before .before .before .before .before .before .loop-test .taken) (i .result) (i .ensures)
+    nearer (s .args .word .now) (s .pre .known) (l .at) (l .count) (l .extra) (l .inv) (c .before .before .before .before .before .before
+    .loop-test .taken) (i .result) (i .ensures)
 
 loop-again : tie.Need-loop-again Inv-loop μ-loop
 loop-again c =
     let l : _ = c .before .before .before .before .before .before .before .loop in
     let s : _ = c .before .before .before .before .before .before .before .before .before in
     let i : _ = c .before .before .before .before .before .item-at in
-    scanning-next (s .args .word .now) (s .pre .known) (l .at) (l .count) (l .extra) (l .inv) (c .before .before .before .before .before .before .loop-test .taken) (i .result) (i .ensures)
-    (c .before .before .before .if1 .left) (c .before .if2 .left) (c .if3 .extra) (⊎-elim (λ y. inl (y .0 .taken, y .1)) (λ y. inr (y .0 .left, y .1)) (c .if3 .came))
+    scanning-next (s .args .word .now) (s .pre .known) (l .at) (l .count) (l .extra) (l .inv) (c .before .before .before .before .before
+    .before .loop-test .taken) (i .result) (i .ensures)
+    (c .before .before .before .if1 .left) (c .before .if2 .left) (c .if3 .extra) (⊎-elim (λ y. inl (y .0 .taken, y .1)) (λ y. inr (
+      y .0
+          .left,
+      y .1,
+    )) (c .if3 .came))
 
 refused-requires-3 : tie.Need-refused-requires-3 Inv-loop μ-loop
 refused-requires-3 c κs = search needs

@@ -1,5 +1,6 @@
--- `symbols_end` meets its contract. The loop's invariant: the symbols from here end where those from the start end. What is left of the word falls.
-use mathlib.Core.Path.{_≡_, refl}
+-- `symbols_end` meets its contract. The loop's invariant: the symbols from here end where those from the start end. What is left of the
+-- word falls.
+use mathlib.Core.Path.{_≡_}
 use Prim.Native.Nat.{ℕ, _+_, _-_, _≤_}
 use native.Mathlib.Omega.{arith}
 use mathlib.Core.Logic.{⊎-elim}

@@ -1,6 +1,5 @@
 -- `copied` meets its contract: a walk of its MIR by hand, with its loop. In a turn one record of the table is read, and its numbers are
--- stored in the two
--- arrays, which are taken apart into their elements before the loop and put together after it.
+-- stored in the two arrays, which are taken apart into their elements before the loop and put together after it.
 use mathlib.Core.Path.{_≡_, refl, sym, subst}
 use Prim.Native.Nat.{ℕ, _<_, _≤_, _^_, _*_, _+_, _-_, zero-le}
 use native.Mathlib.Nat.{le-antisymm}
@@ -9,7 +8,7 @@ use native.Mathlib.Omega.{arith}
 use mathlib.Core.Logic.{_⊎_, inl, inr}
 use mathlib.Core.Bool.{Bool}
 use mathlib.Core.WellFounded.{WellFounded, InvImage·wf}
-use mathlib.Core.List.{List, [], _∷_}
+use mathlib.Core.List.{List, [], _∷_, map-id}
 use borrow.Author.Tests.{lt-ltb, le-ltb}
 use lib.ListN.{length, getD, replicate}
 use lib.WfN.{Nat·lt-wfRel}
@@ -63,7 +62,6 @@ use Rattle.word.proofs.records.Numbers.Laws as N′
 use Rattle.word.proofs.Fills.{lt-or-le}
 use Rattle.word.proofs.Tallies.{no-record}
 use Rattle.word.proofs.Copies.{kind-in, operand-in, copied-at, copied-none, copied-length, copied-next, numbers-end, same}
-use Rattle.word.proofs.Copies.{map-same}
 use Rattle.word.proofs.records.copied.Key.{name as #copied}
 use Rattle.word.proofs.records.copied as f
 use Rattle.word.proofs.records.copied.Statement as stated
@@ -258,7 +256,7 @@ module _ {M : Type 1} (𝓤 : URA M) (H : Heap 𝓤) (A : Atoms 𝓤) (W : Given
         .0)) us (λ ks. drop ! $
         rewrite ! 0 (λ (us : List Val). ‵ (cellAt fullShare ((Array u8 8192) .mir) us l₃ 0)) (array-tells u8 (uint-vals w8) (uint-tells
         w8) 8192 (Ks (i .0)) us ks) refl $
-        rewrite ! 0 (λ (zs : List ℕ). ‵ (cellAt fullShare ((Array u8 8192) .mir) (array-vals (uint-vals w8) zs) l₃ 0)) (sym (map-same (Ks
+        rewrite ! 0 (λ (zs : List ℕ). ‵ (cellAt fullShare ((Array u8 8192) .mir) (array-vals (uint-vals w8) zs) l₃ 0)) (sym (map-id (Ks
         (i .0)))) refl $
         move ! (25 ∷ []) $ feqI ! ℕ (length (Ns (i .0))) 8192 ln $ fjoin ! $
         use1 W (‵ (partAt (Array u32 8192) fullShare (Ns (i .0)) l₄ 0)) (array-whole 𝓤 H A W u32 fullShare 8192 (Ns (i .0)) l₄ 0) $
@@ -266,16 +264,16 @@ module _ {M : Type 1} (𝓤 : URA M) (H : Heap 𝓤) (A : Atoms 𝓤) (W : Given
         .0)) ws (λ ns. drop ! $
         rewrite ! 0 (λ (us : List Val). ‵ (cellAt fullShare ((Array u32 8192) .mir) us l₄ 0)) (array-tells u32 (uint-vals w32)
         (uint-tells w32) 8192 (Ns (i .0)) ws ns) refl $
-        rewrite ! 0 (λ (zs : List ℕ). ‵ (cellAt fullShare ((Array u32 8192) .mir) (array-vals (uint-vals w32) zs) l₄ 0)) (sym (map-same
+        rewrite ! 0 (λ (zs : List ℕ). ‵ (cellAt fullShare ((Array u32 8192) .mir) (array-vals (uint-vals w32) zs) l₄ 0)) (sym (map-id
         (Ns (i .0)))) refl $
         let j8 : Is (Array u8 8192) (Ks (i .0)) (array-vals (uint-vals w8) (Ks (i .0))) = subst (λ (vs : List Val). Is (Array u8 8192)
         (Ks (i .0)) vs) (array-tells u8 (uint-vals w8) (uint-tells w8) 8192 (Ks (i .0)) us ks) ks in
         let i8 : Is (Array u8 8192) (same (Ks (i .0))) (Val8 (i .0)) = subst (λ (zs : List ℕ). Is (Array u8 8192) zs (array-vals
-        (uint-vals w8) zs)) (sym (map-same (Ks (i .0)))) j8 in
+        (uint-vals w8) zs)) (sym (map-id (Ks (i .0)))) j8 in
         let j32 : Is (Array u32 8192) (Ns (i .0)) (array-vals (uint-vals w32) (Ns (i .0))) = subst (λ (vs : List Val). Is (Array u32
         8192) (Ns (i .0)) vs) (array-tells u32 (uint-vals w32) (uint-tells w32) 8192 (Ns (i .0)) ws ns) ns in
         let i32 : Is (Array u32 8192) (same (Ns (i .0))) (Val32 (i .0)) = subst (λ (zs : List ℕ). Is (Array u32 8192) zs (array-vals
-        (uint-vals w32) zs)) (sym (map-same (Ns (i .0)))) j32 in
+        (uint-vals w32) zs)) (sym (map-id (Ns (i .0)))) j32 in
         let is : Is N.the-row (G (i .0)) (Mach (i .0) ∷ []) = LL.owes N.the-type N′.the-laws (G (i .0)) (i8, (i32, tt)) in
         assigns ! (of-opd ! (load ! (from ! (stop !)) (look ! 1 refl))) (from ! (stop !)) (init ! 4 refl (array-typed u8 (uint-lawful 𝓤 H
         A W w8 .typed) 8192 (same (Ks (i .0))) _ i8 .0)) $

@@ -17,7 +17,8 @@ use Rattle.word.proofs.records.measure_for.Statement.{statement}
 use Rattle.word.proofs.records.measure_for.Tie as tie
 
 module _ (w : List ℕ) (room : ℕ) where
-  no-room : word-fault w ≡ none → room < length (word-entries w) → Refused (record { number = 19; place = 0 }) ≡ read-answer (measured room w)
+  no-room : word-fault w ≡ none → room < length (word-entries w)
+      → Refused (record { number = 19; place = 0 }) ≡ read-answer (measured room w)
   unfolding read-word measured
   no-room fine h = rw (fine, lt-leb (length (word-entries w)) room h)
 
@@ -45,7 +46,8 @@ refused-requires c κs = search needs
 returns : tie.Need-returns
 returns c =
     let s : _ = c .before .before .before .before .before .before .before in
-    let m : _ = counted (s .args .word .now) (c .before .before .before .n .given .0 .0) (sym (c .before .before .before .n .given .1) ∙ c .before .before .before .before .before .measure .ensures) in
+    let m : _ = counted (s .args .word .now) (c .before .before .before .n .given .0 .0) (sym (c .before .before .before .n .given .1)
+    ∙ c .before .before .before .before .before .measure .ensures) in
     c .refused .ensures ∙ no-room (s .args .word .now) (s .args .room) (m .0) (omega (arith, m .1, c .before .if1 .taken))
 
 enum-known-r : tie.Need-enum-known-r
@@ -54,13 +56,15 @@ enum-known-r c = search needs
 returns-2 : tie.Need-returns-2
 returns-2 c =
     let s : _ = c .before .before .before .before .before .before in
-    let m : _ = counted (s .args .word .now) (c .before .before .n .given .0 .0) (sym (c .before .before .n .given .1) ∙ c .before .before .before .before .measure .ensures) in
+    let m : _ = counted (s .args .word .now) (c .before .before .n .given .0 .0) (sym (c .before .before .n .given .1)
+    ∙ c .before .before .before .before .measure .ensures) in
     ap Done (m .1) ∙ enough-room (s .args .word .now) (s .args .room) (m .0) (omega (arith, m .1, c .if1 .left))
 
 returns-3 : tie.Need-returns-3
 returns-3 c =
     let s : _ = c .before .before .before .before .before in
-    turned-down (s .args .word .now) (s .args .room) (c .before .r .given .0 .0) (sym (c .before .r .given .1) ∙ c .before .before .before .measure .ensures)
+    turned-down (s .args .word .now) (s .args .room) (c .before .r .given .0 .0) (sym (c .before .r .given .1)
+    ∙ c .before .before .before .measure .ensures)
 
 pub measure-for-spec : {M : Type 1} → statement M
 measure-for-spec =

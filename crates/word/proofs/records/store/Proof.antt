@@ -1,6 +1,5 @@
 -- `store` meets its contract: a walk of its MIR by hand, with its loop. In a turn `item_at` is called on the word, and the table's borrow
--- is opened, one
--- record stored, and closed again.
+-- is opened, one record stored, and closed again.
 use mathlib.Core.Path.{_≡_, refl, sym, ap, subst}
 use Prim.Native.Nat.{ℕ, _<_, _≤_, _^_, _*_, _+_, _-_, zero-le}
 use native.Mathlib.Nat.{le-antisymm}

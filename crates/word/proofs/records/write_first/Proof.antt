@@ -6,10 +6,12 @@ use Rattle.word.proofs.records.write_first.Statement.{statement}
 use Rattle.word.proofs.records.write_first.Tie as tie
 
 slice-aggregate-write : tie.Need-slice-aggregate-write
-slice-aggregate-write c = sym (length-take-le (c .before .before .before .before .args .n) (c .before .before .before .before .args .kinds .now) (c .before .before .before .before .pre .0))
+slice-aggregate-write c = sym (length-take-le (c .before .before .before .before .args .n) (c .before .before .before .before .args
+    .kinds .now) (c .before .before .before .before .pre .0))
 
 slice-aggregate-write-2 : tie.Need-slice-aggregate-write-2
-slice-aggregate-write-2 c = sym (length-take-le (c .before .before .before .before .before .args .n) (c .before .before .before .before .before .args .operands .now) (c .before .before .before .before .before .pre .1))
+slice-aggregate-write-2 c = sym (length-take-le (c .before .before .before .before .before .args .n) (c .before .before .before .before
+    .before .args .operands .now) (c .before .before .before .before .before .pre .1))
 
 write-requires : tie.Need-write-requires
 write-requires c κs = search needs

@@ -16,7 +16,8 @@ slice-aggregate-write-first-2 c = search needs
 
 write-first-requires : tie.Need-write-first-requires
 write-first-requires c κs =
-    let n : c .before .before .before .before .before .before .before .before .before .args .g .answer ≡ Done (c .before .before .before .before .before .before .answer .given .0 .0) = c .before .before .before .before .before .before .answer .given .1 in
+    let n : c .before .before .before .before .before .before .before .before .before .args .g .answer ≡ Done (c .before .before .before
+    .before .before .before .answer .given .0 .0) = c .before .before .before .before .before .before .answer .given .1 in
     let room : _ = c .before .before .before .before .before .before .before .before .before .pre in
     (rw n at (room .0), rw n at (room .1))
 
@@ -27,7 +28,8 @@ same-length : tie.Need-same-length
 same-length c = search needs
 
 returns : tie.Need-returns
-returns c = rw (c .before .before .before .before .before .before .before .before .before .answer .given .1) (c .before .before .write-first .ensures)
+returns c = rw (c .before .before .before .before .before .before .before .before .before .answer .given .1) (c .before .before
+    .write-first .ensures)
 
 returns-2 : tie.Need-returns-2
 returns-2 c = rw (c .before .answer2 .given .1) (refl, refl)

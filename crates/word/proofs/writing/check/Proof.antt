@@ -14,7 +14,8 @@ judge-requires : tie.Need-judge-requires
 judge-requires c κs = search needs
 
 returns : tie.Need-returns
-returns c = c .judge .ensures ∙ ap judged (c .before .counted .ensures) ∙ judged-tally (zipped (c .before .before .before .before .args .kinds .now) (c .before .before .before .before .args .operands .now))
+returns c = c .judge .ensures ∙ ap judged (c .before .counted .ensures)
+    ∙ judged-tally (zipped (c .before .before .before .before .args .kinds .now) (c .before .before .before .before .args .operands .now))
 
 pub check-spec : {M : Type 1} → statement M
 check-spec = tie.close (tie.spec counted-requires judge-requires returns)

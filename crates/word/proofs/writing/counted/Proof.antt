@@ -55,7 +55,13 @@ with-entry-requires c κs =
     let l : _ = c .before .before .before .loop in
     let a : _ = c .before .before .before .before .before .before .before .args in
     let z : _ = zipped-length (a .kinds .now) (a .operands .now) in
-    let r : _ = in-range (a .kinds .now) (a .operands .now) (l .i) (l .t) (l .inv .1) (omega (arith, z, c .before .before .before .before .longer .ensures, c .before .before .loop-test .taken)) in
+    let r : _ = in-range (a .kinds .now) (a .operands .now) (l .i) (l .t) (l .inv .1) (omega (
+      arith,
+      z,
+      c .before .before .before .before
+          .longer .ensures,
+      c .before .before .loop-test .taken,
+    )) in
     (r .0, omega (arith, r .1))
 
 add-i : tie.Need-add-i Inv-loop μ-loop
@@ -70,7 +76,13 @@ loop-again c =
     let a : _ = c .before .before .before .before .before .before .before .before .args in
     let z : _ = zipped-length (a .kinds .now) (a .operands .now) in (
       omega arith,
-      counted-next (a .kinds .now) (a .operands .now) (l .i) (l .t) (l .inv .1) (omega (arith, z, c .before .before .before .before .before .longer .ensures, c .before .before .before .loop-test .taken)) _ _
+      counted-next (a .kinds .now) (a .operands .now) (l .i) (l .t) (l .inv .1) (omega (
+        arith,
+        z,
+        c .before .before .before .before
+            .before .longer .ensures,
+        c .before .before .before .loop-test .taken,
+      )) _ _
           (c .before .before .kind-at .ensures) (c .before .operand-at .ensures) (c .with-entry .result) (c .with-entry .ensures),
     )
 
@@ -79,7 +91,13 @@ returns c =
     let l : _ = c .before .loop in
     let a : _ = c .before .before .before .before .before .args in
     let z : _ = zipped-length (a .kinds .now) (a .operands .now) in
-    let all : _ = take-all (l .i) (zipped (a .kinds .now) (a .operands .now)) (omega (arith, z, c .before .before .longer .ensures, c .loop-test .left)) in
+    let all : _ = take-all (l .i) (zipped (a .kinds .now) (a .operands .now)) (omega (
+      arith,
+      z,
+      c .before .before .longer .ensures,
+      c
+          .loop-test .left,
+    )) in
     l .inv .1 ∙ ap tally-of all
 
 pub counted-spec : {M : Type 1} → statement M

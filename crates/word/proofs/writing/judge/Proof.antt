@@ -23,7 +23,11 @@ returns-2 : tie.Need-returns-2
 unfolding judged
 returns-2 c =
     let t : Tally = c .before .before .before .before .args .t in
-    c .refused2 .ensures ∙ rw (ne-eqb (t .count) 0 (c .before .before .before .if1 .left), lt-ltb 600000 (t .size) (c .before .if2 .taken))
+    c .refused2 .ensures ∙ rw (
+      ne-eqb (t .count) 0 (c .before .before .before .if1 .left),
+      lt-ltb 600000 (t .size) (c .before .if2
+          .taken),
+    )
 
 refused-requires-3 : tie.Need-refused-requires-3
 refused-requires-3 c κs = search needs

@@ -35,7 +35,8 @@ returns : tie.Need-returns
 returns c =
     let a : _ = c .before .before .before .before .before .before .before .before .before .args in (
       omega arith,
-      entry-put (a .word .now) (c .before .before .before .before .before .before .put-run .last .0) (c .before .before .put-run2 .last .0) (a .at) (a .kind) (a .operand)
+      entry-put (a .word .now) (c .before .before .before .before .before .before .put-run .last .0) (c .before .before .put-run2 .last
+          .0) (a .at) (a .kind) (a .operand)
           (c .before .before .before .before .before .before .put-run .ensures) (c .before .before .put-run2 .ensures),
     )
 

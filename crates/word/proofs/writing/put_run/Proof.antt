@@ -52,7 +52,8 @@ same-length c =
 returns : tie.Need-returns Inv-loop μ-loop
 returns c =
     let all : c .before .loop .i ≡ c .before .before .args .n = omega arith in
-    c .before .loop .inv .1 ∙ ap (λ (k : ℕ). sets (c .before .before .args .word .now) (c .before .before .args .at) (replicate k (c .before .before .args .byte))) all
+    c .before .loop .inv .1 ∙ ap (λ (k : ℕ). sets (c .before .before .args .word .now) (c .before .before .args .at) (replicate k (c
+    .before .before .args .byte))) all
 
 pub put-run-spec : {M : Type 1} → statement M
 put-run-spec =

@@ -1,4 +1,5 @@
--- `spell` meets its contract. The loop's invariant: the entries passed are spelled, and `at` is where they end. What is left of the count falls.
+-- `spell` meets its contract. The loop's invariant: the entries passed are spelled, and `at` is where they end. What is left of the count
+-- falls.
 use mathlib.Core.Path.{_≡_, refl, ap, _∙_}
 use mathlib.Core.List.{List, _++_}
 use Prim.Native.Nat.{ℕ, _+_, _-_, _≤_, _<_}
@@ -40,7 +41,8 @@ module _ (kinds operands : List ℕ) (word₀ word : List ℕ) (at i : ℕ) (s :
     fits : total t ≤ length word₀ → at + (operand + kind) ≤ length word
     fits room = omega (arith, size, kept, total-take (i + 1) t)
 
-    spelling-next : (at′ : ℕ) (word′ : List ℕ) → at′ ≡ at + (operand + kind) → word′ ≡ sets word at (replicate operand 49 ++ replicate kind 35)
+    spelling-next : (at′ : ℕ) (word′ : List ℕ) → at′ ≡ at + (operand + kind)
+        → word′ ≡ sets word at (replicate operand 49 ++ replicate kind 35)
         → Spelling t word₀ word′ at′ (i + 1)
     spelling-next at′ word′ e f = record {
       place = e ∙ size;
@@ -54,7 +56,11 @@ abbrev μ-loop : tie.MeasureT-loop
 μ-loop kinds operands count word₀ at₀ i₀ word at i = count - i
 
 loop-holds : tie.Need-loop-holds Inv-loop μ-loop
-loop-holds c = (omega arith, spelling-start (zipped (c .before .before .before .args .kinds .now) (c .before .before .before .args .operands .now)) (c .before .before .before .args .word .now))
+loop-holds c = (
+  omega arith,
+  spelling-start (zipped (c .before .before .before .args .kinds .now) (c .before .before .before .args
+      .operands .now)) (c .before .before .before .args .word .now),
+)
 
 kind-at-requires : tie.Need-kind-at-requires Inv-loop μ-loop
 kind-at-requires c κs = search needs
@@ -85,8 +91,10 @@ loop-again c =
     let p : _ = c .before .before .put-entry in (
       omega arith,
       spelling-next (a .kinds .now) (a .operands .now) (a .word .now) (l .word) (l .at) (l .i) (l .inv .1)
-          (omega (arith, c .before .before .before .before .before .before .loop-test .taken, s .pre .within)) (c .before .before .before .before .kind-at .result) (c .before .before .before .operand-at .result)
-          (c .before .before .before .before .kind-at .ensures) (c .before .before .before .operand-at .ensures) (p .result) (p .last .0) (p .ensures .0) (p .ensures .1),
+          (omega (arith, c .before .before .before .before .before .before .loop-test .taken, s .pre .within)) (c .before .before .before
+          .before .kind-at .result) (c .before .before .before .operand-at .result)
+          (c .before .before .before .before .kind-at .ensures) (c .before .before .before .operand-at .ensures) (p .result) (p .last .0)
+          (p .ensures .0) (p .ensures .1),
     )
 
 same-length : tie.Need-same-length Inv-loop μ-loop

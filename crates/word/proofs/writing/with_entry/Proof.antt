@@ -36,16 +36,33 @@ add-count : tie.Need-add-count
 add-count c = search needs
 
 returns : tie.Need-returns
-returns c = past-bad (c .before .before .before .before .before .args .t) (record { kind = c .before .before .before .before .before .args .kind; operand = c .before .before .before .before .before .args .operand }) _ (c .before .before .before .capped .ensures) (c .if1 .taken)
+returns c = past-bad (c .before .before .before .before .before .args .t) (record {
+  kind = c .before .before .before .before .before
+      .args .kind;
+  operand = c .before .before .before .before .before .args .operand;
+}) _ (c .before .before .before .capped .ensures) (c
+    .if1 .taken)
 
 is-instruction-requires : tie.Need-is-instruction-requires
 is-instruction-requires c κs = search needs
 
 returns-2 : tie.Need-returns-2
-returns-2 c = still-good (c .before .before .before .before .before .before .before .args .t) (record { kind = c .before .before .before .before .before .before .before .args .kind; operand = c .before .before .before .before .before .before .before .args .operand }) _ (c .before .before .before .before .before .capped .ensures) (c .before .before .if1 .left) (sym (c .before .is-instruction .ensures) ∙ c .if2 .taken)
+returns-2 c = still-good (c .before .before .before .before .before .before .before .args .t) (record {
+  kind = c .before .before .before
+      .before .before .before .before .args .kind;
+  operand = c .before .before .before .before .before .before .before .args .operand;
+}) _
+    (c .before .before .before .before .before .capped .ensures) (c .before .before .if1 .left) (sym (c .before .is-instruction .ensures)
+    ∙ c .if2 .taken)
 
 returns-3 : tie.Need-returns-3
-returns-3 c = first-bad (c .before .before .before .before .before .before .before .args .t) (record { kind = c .before .before .before .before .before .before .before .args .kind; operand = c .before .before .before .before .before .before .before .args .operand }) _ (c .before .before .before .before .before .capped .ensures) (c .before .before .if1 .left) (sym (c .before .is-instruction .ensures) ∙ c .if2 .left)
+returns-3 c = first-bad (c .before .before .before .before .before .before .before .args .t) (record {
+  kind = c .before .before .before
+      .before .before .before .before .args .kind;
+  operand = c .before .before .before .before .before .before .before .args .operand;
+}) _
+    (c .before .before .before .before .before .capped .ensures) (c .before .before .if1 .left) (sym (c .before .is-instruction .ensures)
+    ∙ c .if2 .left)
 
 pub with-entry-spec : {M : Type 1} → statement M
 with-entry-spec =

@@ -40,7 +40,8 @@ returns c =
     let s : _ = c .before .before .before .before .before .counted in
     let n : _ = c .before .before .count .given in
     let j : _ = c .before .before .before .before .judge in
-    let m : _ = checked z (a .word .now) (n .0 .0) (answered z (s .result) (s .ensures) (j .result) (Done (n .0 .0)) (n .1) (j .ensures)) in
+    let m : _ = checked z (a .word .now) (n .0 .0) (answered z (s .result) (s .ensures) (j .result) (Done (n .0 .0)) (n .1) (j .ensures))
+    in
     let size : s .result .size ≡ total z = size-of z (s .result) (s .ensures) ∙ size-is z (a .word .now) (m .0) in
     word-short z (a .word .now) (m .0) (omega (arith, size, c .if1 .taken))
 
@@ -51,7 +52,8 @@ spell-requires c κs =
     let s : _ = c .before .before .before .before .before .before .counted in
     let n : _ = c .before .before .before .count .given in
     let j : _ = c .before .before .before .before .before .judge in
-    let m : _ = checked z (a .word .now) (n .0 .0) (answered z (s .result) (s .ensures) (j .result) (Done (n .0 .0)) (n .1) (j .ensures)) in
+    let m : _ = checked z (a .word .now) (n .0 .0) (answered z (s .result) (s .ensures) (j .result) (Done (n .0 .0)) (n .1) (j .ensures))
+    in
     let size : s .result .size ≡ total z = size-of z (s .result) (s .ensures) ∙ size-is z (a .word .now) (m .0) in
     record { within = omega (arith, m .1); room = omega (arith, size, c .before .if1 .left) }
 
@@ -68,9 +70,11 @@ returns-2 c =
     let s : _ = c .before .before .before .before .before .before .before .before .before .counted in
     let n : _ = c .before .before .before .before .before .before .count .given in
     let j : _ = c .before .before .before .before .before .before .before .before .judge in
-    let m : _ = checked z (a .word .now) (n .0 .0) (answered z (s .result) (s .ensures) (j .result) (Done (n .0 .0)) (n .1) (j .ensures)) in
+    let m : _ = checked z (a .word .now) (n .0 .0) (answered z (s .result) (s .ensures) (j .result) (Done (n .0 .0)) (n .1) (j .ensures))
+    in
     let size : s .result .size ≡ total z = size-of z (s .result) (s .ensures) ∙ size-is z (a .word .now) (m .0) in
-    let w : _ = word-fits z (a .word .now) (m .0) (omega (arith, size, c .before .before .before .before .if1 .left)) (s .result .size) size in
+    let w : _ = word-fits z (a .word .now) (m .0) (omega (arith, size, c .before .before .before .before .if1 .left)) (s .result .size)
+    size in
     (w .0, c .before .before .spell .ensures ∙ ap (λ (k : ℕ). spelt z k (a .word .now)) (m .1) ∙ w .1)
 
 returns-3 : tie.Need-returns-3
