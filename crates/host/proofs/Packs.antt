@@ -11,11 +11,12 @@ use Rattle.theory.specs.Machines.{Memory, run-word}
 use Rattle.theory.specs.TurnedDown.{Answer, done, refused, mapped, read-word-for, instructions}
 use Rattle.program.specs.Answers as Programs
 use Rattle.word.specs.Answers.{read-answer, written-answer}
+use Rattle.translation.specs.Answers as Translations
 use Rattle.source.specs.Answers.{ended-by}
 use Rattle.machine.specs.Calls.{position, called, checked, word-called}
 use Rattle.machine.specs.declared.answers.Position.{Position}
-use Rattle.host.specs.Packed.{packed, commands, count, ending}
-use Rattle.host.specs.Answered.{program-read, program-written, word-read, word-written, source-ended, word-ended}
+use Rattle.host.specs.Packed.{packed, commands, sizes, count, ending}
+use Rattle.host.specs.Answered.{program-read, program-written, word-read, word-written, translated, source-ended, word-ended}
 use Rattle.host.specs.Entries.{run-lent}
 
 pub packs-program-read : (a : Answer (List Command)) → program-read (Programs.checked a) ≡ packed commands a
@@ -37,6 +38,11 @@ pub packs-word-written : (a : Answer (List ℕ)) → word-written (written-answe
 unfolding packed
 packs-word-written (done w) = refl
 packs-word-written (refused r) = refl
+
+pub packs-translated : (a : Answer (List Command)) → translated (Translations.translated a) ≡ packed sizes a
+unfolding packed
+packs-translated (done p) = refl
+packs-translated (refused r) = refl
 
 pub packs-source : (a : Answer (Outcome S.State)) → source-ended (ended-by a) ≡ packed ending a
 unfolding packed ended-by

@@ -1,5 +1,5 @@
 -- Runs of a source from 51 numbers: those that are a state, and those that are none since there are not 51 of them.
-use mathlib.Core.Path.{_≡_, refl, sym, ap, ap₂, _∙_}
+use mathlib.Core.Path.{_≡_, refl, sym, ap, ap₂, subst, _∙_}
 use mathlib.Core.Bool.{Bool, cond, false, true}
 use mathlib.Core.List.{List, [], _∷_, _++_}
 use Prim.Native.Nat.{ℕ}
@@ -71,16 +71,18 @@ module _ (A : Answer (List Command)) (l : List ℕ) (budget : ℕ) (size : lengt
       after-same A _ _
       λ p. sym (ap (λ (t : Bool). cond t (run-from (state-of l) budget p) (refused (record { number = 9; place = 0 }))) (eq-eqb (length l) 51 size))
 
-  pub runs-state
-      : HandsBack (state-of l) (after A (run-from (state-of l) budget)) r
-      → RunsSource A l budget (source-ended (r .ended)) (numbers-of (r .state))
-  runs-state h =
+  pub runs-state : (s : State) (n : ℕ) (l′ : List ℕ) → s ≡ state-of l → HandsBack s (after A (run-from s budget)) r
+      → n ≡ source-ended (r .ended) → l′ ≡ numbers-of (r .state) → RunsSource A l budget n l′
+  runs-state s n l′ e back result numbers =
       let a : Answer (Outcome S.State) = after A (run-from (state-of l) budget) in
-      let back : Sized (r .state) = rw (h .state) (sized-by (state-of l) (sized-of l size) a) in
+      let h : HandsBack (state-of l) a r = subst (λ (t : State). HandsBack t (after A (run-from t budget)) r) e back in
+      let sized : Sized (r .state) = rw (h .state) (sized-by (state-of l) (sized-of l size) a) in
       record {
-        result = ap source-ended (h .ended) ∙ packs-source a ∙ ap (packed ending) same-answer;
-        numbers-after = ap numbers-of (h .state) ∙ numbers-of-by l size a ∙ ap (numbers-by l) same-answer;
-        stands = ap source-state (state-again (r .state) back) ∙ h .stands ∙ ap (moved-by (source-state (state-of l))) same-answer;
+        result = result ∙ ap source-ended (h .ended) ∙ packs-source a ∙ ap (packed ending) same-answer;
+        numbers-after = numbers ∙ ap numbers-of (h .state) ∙ numbers-of-by l size a ∙ ap (numbers-by l) same-answer;
+        stands
+            = ap (λ (t : List ℕ). source-state (state-of t)) numbers ∙ ap source-state (state-again (r .state) sized)
+            ∙ h .stands ∙ ap (moved-by (source-state (state-of l))) same-answer;
       }
 
 -- From another number of numbers: rule 9, as for a state of no capacity
@@ -101,22 +103,22 @@ unfolding moved-by
 unmoved (done p) s = refl
 unmoved (refused r) s = refl
 
-module _ (A : Answer (List Command)) (l : List ℕ) (budget : ℕ) (other : length l ≡ 51 → ⊥) (v : List ℕ) (budget′ : ℕ) (r : Run) where
+module _ (A : Answer (List Command)) (l : List ℕ) (budget : ℕ) (other : length l ≡ 51 → ⊥) (r : Run) where
   refused-answer : after A turned-down ≡ after A (run-numbers l budget)
   unfolding run-numbers
   refused-answer =
       after-same A _ _
       λ p. sym (ap (λ (t : Bool). cond t (run-from (state-of l) budget p) (turned-down p)) (ne-eqb (length l) 51 other))
 
-  pub runs-none
-      : HandsBack (fresh-state 0 v) (after A (run-from (fresh-state 0 v) budget′)) r → RunsSource A l budget (source-ended (r .ended)) l
-  runs-none h =
-      let e : after A (run-from (fresh-state 0 v) budget′) ≡ after A turned-down = after-same A _ _ (no-room v budget′) in
+  pub runs-none : (s : State) (n : ℕ) (v : List ℕ) → s ≡ fresh-state 0 v → HandsBack s (after A (run-from s 0)) r
+      → n ≡ source-ended (r .ended) → RunsSource A l budget n l
+  runs-none s n v e back result =
+      let down : after A (run-from s 0) ≡ after A turned-down
+      = after-same A _ _ λ p. ap (λ (t : State). run-from t 0 p) e ∙ no-room v 0 p in
       record {
         result
-            = ap source-ended (h .ended) ∙ packs-source (after A (run-from (fresh-state 0 v) budget′))
-            ∙ ap (packed ending) e ∙ ap (packed ending) refused-answer;
+            = result ∙ ap source-ended (back .ended) ∙ packs-source (after A (run-from s 0))
+            ∙ ap (packed ending) down ∙ ap (packed ending) refused-answer;
         numbers-after = sym (kept A l) ∙ ap (numbers-by l) refused-answer;
-        stands
-            = sym (unmoved A (source-state (state-of l))) ∙ ap (moved-by (source-state (state-of l))) refused-answer;
+        stands = sym (unmoved A (source-state (state-of l))) ∙ ap (moved-by (source-state (state-of l))) refused-answer;
       }

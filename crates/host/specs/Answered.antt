@@ -9,6 +9,8 @@ use Rattle.word.specs.declared.answers.Read.{Read}
 use Rattle.word.specs.declared.answers.Read.the-variants as Read
 use Rattle.word.specs.declared.answers.Written as Word
 use Rattle.word.specs.declared.answers.Written.the-variants as WordWritten
+use Rattle.translation.specs.declared.Translated.{Translated}
+use Rattle.translation.specs.declared.Translated.the-variants as Translated
 use Rattle.source.specs.declared.Ended as Source
 use Rattle.source.specs.declared.Ended.the-variants as SourceEnded
 use Rattle.machine.specs.declared.answers.Ended as Machine
@@ -33,6 +35,10 @@ word-read (Read.Refused r) = refusal r
 abbrev pub word-written : Word.Written → ℕ
 word-written (WordWritten.Done symbols) = pack 0 0 symbols
 word-written (WordWritten.Refused r) = refusal r
+
+abbrev pub translated : Translated → ℕ
+translated (Translated.Done size) = pack 0 (size .instructions) (size .symbols)
+translated (Translated.Refused r) = refusal r
 
 abbrev pub source-ended : Source.Ended → ℕ
 source-ended (SourceEnded.Ran end steps) = pack (end-number end) 0 steps

@@ -4,18 +4,31 @@ use mathlib.Core.List.{List}
 use Prim.Native.Nat.{ℕ}
 use lib.IntN.{ℤ}
 use Rattle.theory.specs.Text.{Bytes}
-use Rattle.theory.specs.ProgramText.{Command}
+use Rattle.theory.specs.ProgramText.{Command, list-of}
 use Rattle.theory.specs.Runs.{Outcome}
 use Rattle.theory.specs.Word.{Entry}
 use Rattle.theory.specs.Word as W
+use Rattle.theory.specs.Translation.{word-text}
 use Rattle.theory.specs.Machines.{Memory, run-word}
 use Rattle.theory.specs.TurnedDown.{Answer, after, mapped, read-word-for, instructions, lent-after}
+use Rattle.translation.specs.Answers.{translate-into}
 use Rattle.source.specs.Answers.{source-state, moved-by}
+use Rattle.program.specs.Answers as Programs
 use Rattle.word.specs.Answers as Words
 use Rattle.machine.specs.Calls.{position, checked, word-called}
 use Rattle.machine.specs.declared.answers.Position.{Position}
-use Rattle.host.specs.Packed.{packed, count, ending}
+use Rattle.host.specs.Packed.{packed, commands, sizes, count, ending}
 use Rattle.host.specs.States.{state-of, run-numbers, numbers-by}
+
+-- A text read into a lent list of three numbers a command: the variables and the commands
+pub record ReadsProgram (text : Bytes) (list : List ℕ) (r : ℕ) (list′ : List ℕ) : Type 0 where
+  pub result : r ≡ packed commands (Programs.read-into list text)
+  pub list-after : list′ ≡ lent-after list (mapped list-of (Programs.read-into list text))
+
+-- A program handed in as A, translated into a lent word: the word's instructions and symbols
+pub record Translates (A : Answer (List Command)) (word : Bytes) (r : ℕ) (word′ : Bytes) : Type 0 where
+  pub result : r ≡ packed sizes (translate-into word A)
+  pub word-after : word′ ≡ lent-after word (mapped word-text (translate-into word A))
 
 -- A program handed in as A, run from a state of 51 numbers: how the run ended, with its steps. `numbers-after` fixes every number of the state, and
 -- `stands` says that they are the definitions' state and no part of that: from there a later call goes on

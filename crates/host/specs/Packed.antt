@@ -4,6 +4,7 @@ use Prim.Native.Nat.{ℕ, _+_, _*_, _%_, _^_}
 use lib.ListN.{length}
 use Rattle.theory.specs.ProgramText.{Command, variables}
 use Rattle.theory.specs.Runs.{Outcome}
+use Rattle.theory.specs.Translation.{word-of, word-text}
 use Rattle.theory.specs.TurnedDown.{Answer, done, refused}
 use Rattle.theory.specs.declared.End.{End}
 use Rattle.theory.specs.declared.End.the-variants.{Halted, Strayed, Spent, Full}
@@ -27,6 +28,10 @@ packed f (refused r) = pack 255 (r .number) (r .place)
 -- A program: its variables and its commands
 abbrev pub commands : List Command → ℕ
 commands p = pack 0 (variables p) (length p)
+
+-- Its word: the instructions and the symbols
+abbrev pub sizes : List Command → ℕ
+sizes p = pack 0 (length (word-of p)) (length (word-text p))
 
 -- A list: its length
 abbrev pub count : {A : Type 0} → List A → ℕ

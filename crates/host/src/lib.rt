@@ -6,8 +6,9 @@ mod states;
 use machine::Machine;
 use machine::Position;
 ghost use mathlib.Core.Path.{_≡_};
+ghost use Rattle.theory.specs.TurnedDown.{read-text, read-list};
 ghost use Rattle.word.specs.Answers.{zipped};
-ghost use Rattle.host.specs.Entries.{RunsWord, ReadsWord, WritesWord, lent, stands-at};
+ghost use Rattle.host.specs.Entries.{ReadsProgram, Translates, RunsSource, ReadsWord, WritesWord, RunsWord, lent, stands-at};
 
 // The version of these entries.
 #[no_mangle]
@@ -15,6 +16,64 @@ pub extern "C" fn mudzkvopi_version() -> u32
     ensures { λ r. ⌜ r ≡ 1 ⌝ }
 {
     1
+}
+
+// A text read into a lent list of three numbers a command: rules 1 to 8, then 19.
+#[no_mangle]
+pub extern "C" fn mudzkvopi_read_program(text: &[u8], list: &mut [u8]) -> u64
+    ensures { λ r. ⌜ ReadsProgram (now (text .entry)) (now (list .entry)) r (now (list .exit)) ⌝ }
+{
+    packing::program_read(program::read(text, &mut *list))
+}
+
+// A program handed in as text, translated into a lent word: rules 1 to 8, then 19.
+#[no_mangle]
+pub extern "C" fn mudzkvopi_translate(text: &[u8], word: &mut [u8]) -> u64
+    ensures { λ r. ⌜ Translates (read-text (now (text .entry))) (now (word .entry)) r (now (word .exit)) ⌝ }
+{
+    packing::translated(translation::translate_text(text, &mut *word))
+}
+
+// A program handed in as a list, translated so: rules 3 to 8, then 19.
+#[no_mangle]
+pub extern "C" fn mudzkvopi_translate_list(list: &[u8], word: &mut [u8]) -> u64
+    ensures { λ r. ⌜ Translates (read-list (now (list .entry))) (now (word .entry)) r (now (word .exit)) ⌝ }
+{
+    packing::translated(translation::translate_list(list, &mut *word))
+}
+
+// A program handed in as text, run from a state of 51 numbers: rules 1 to 8, then 9.
+#[no_mangle]
+pub extern "C" fn mudzkvopi_run_source(text: &[u8], state: &mut [u32], budget: u32) -> u64
+    ensures { λ r. ⌜ RunsSource (read-text (now (text .entry))) (now (state .entry)) budget r (now (state .exit)) ⌝ }
+{
+    if state.len() != states::NUMBERS {
+        let run = source::run_text(text, states::none(), 0);
+        let ended = run.ended;
+        return packing::source_ended(ended);
+    }
+    let run = source::run_text(text, states::state_of(&*state), budget);
+    let next = run.state;
+    let ended = run.ended;
+    states::put_state(next, &mut *state);
+    packing::source_ended(ended)
+}
+
+// A program handed in as a list, run so: rules 3 to 8, then 9.
+#[no_mangle]
+pub extern "C" fn mudzkvopi_run_source_list(list: &[u8], state: &mut [u32], budget: u32) -> u64
+    ensures { λ r. ⌜ RunsSource (read-list (now (list .entry))) (now (state .entry)) budget r (now (state .exit)) ⌝ }
+{
+    if state.len() != states::NUMBERS {
+        let run = source::run_list(list, states::none(), 0);
+        let ended = run.ended;
+        return packing::source_ended(ended);
+    }
+    let run = source::run_list(list, states::state_of(&*state), budget);
+    let next = run.state;
+    let ended = run.ended;
+    states::put_state(next, &mut *state);
+    packing::source_ended(ended)
 }
 
 // A word read into kinds and operands: rules 11 to 14, then 19.

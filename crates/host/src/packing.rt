@@ -3,7 +3,7 @@ use theory::End;
 use theory::Refusal;
 ghost use mathlib.Core.Path.{_≡_};
 ghost use Rattle.host.specs.Packed.{pack, end-number};
-ghost use Rattle.host.specs.Answered.{program-read, program-written, word-read, word-written, source-ended, word-ended};
+ghost use Rattle.host.specs.Answered.{program-read, program-written, word-read, word-written, translated, source-ended, word-ended};
 
 // What came of the call in bits 56 to 63, one count in bits 32 to 47 and another in bits 0 to 31.
 pub fn pack(what: u8, high: usize, low: usize) -> u64
@@ -77,6 +77,16 @@ pub fn word_written(written: word::Written) -> u64
     match written {
         word::Written::Done(symbols) => pack(0, 0, symbols),
         word::Written::Refused(r) => refused(r),
+    }
+}
+
+// A program translated, by its word's instructions and symbols.
+pub fn translated(answer: translation::Translated) -> u64
+    ensures { λ r. ⌜ r ≡ translated answer ⌝ }
+{
+    match answer {
+        translation::Translated::Done(size) => pack(0, size.instructions, size.symbols),
+        translation::Translated::Refused(r) => refused(r),
     }
 }
 

@@ -1,8 +1,12 @@
 // Source states as 51 numbers: capacity, line, steps, 32 values, 16 passes-left.
 use source::State;
 ghost use mathlib.Core.Path.{_≡_};
-ghost use lib.ListN.{length};
+ghost use lib.ListN.{length, replicate};
+ghost use Rattle.source.specs.Answers.{fresh-state};
 ghost use Rattle.host.specs.States.{state-of, numbers-of, state-numbers};
+
+// How many they are.
+pub const NUMBERS: usize = 51;
 
 // Copies all of one slice into another.
 fn copy(from: &[u32], to: &mut [u32])
@@ -14,6 +18,13 @@ fn copy(from: &[u32], to: &mut [u32])
         to[i] = from[i];
         i += 1;
     }
+}
+
+// A state of no capacity, which is none of any program's: rule 9.
+pub fn none() -> State
+    ensures { λ r. ⌜ r ≡ fresh-state 0 (replicate 32 0) ⌝ }
+{
+    State::fresh(0, [0u32; 32])
 }
 
 // The state that 51 numbers are.

@@ -15,3 +15,4 @@ pub mod Accepted
 pub mod Answered
 pub mod ReadWord
 pub mod RegisterOne
+pub mod ReadTable

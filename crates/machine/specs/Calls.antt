@@ -12,7 +12,7 @@ use Rattle.theory.specs.Word.{Symbol, Entry, bytes-of}
 use Rattle.theory.specs.Machines as M
 use Rattle.theory.specs.Machines.{Memory, contents, refilled, is-memory, run-word}
 use Rattle.theory.specs.TurnedDown.{Answer, done, refused, answer, after, mapped, rule-10, rule-15, table-rule-15, table-fault, instructions}
-use Rattle.theory.specs.TurnedDown.{read-word-for}
+use Rattle.theory.specs.TurnedDown.{read-word-for, read-table-for}
 use Rattle.theory.specs.declared.End.the-variants as End
 use Rattle.theory.specs.declared.Refusal.{Refusal}
 use Rattle.word.specs.Answers.{zipped}
@@ -77,6 +77,10 @@ checked m t = after (answer (rule-10 m) m) λ n. t
 -- A run of a word: rule 10, then 11 to 15
 unfoldable pub word-called : Memory → Position → ℕ → Bytes → Called
 word-called m p budget word = called m p budget (checked m (read-word-for (m .registers) word))
+
+-- A run of a table: rule 10, then 11, 13, 14 and 15 as for tables
+unfoldable pub table-called : Memory → Position → ℕ → List Entry → Called
+table-called m p budget t = called m p budget (checked m (read-table-for (m .registers) t))
 
 -- Rule 15, of entries that the rules before it let pass, in a word and in a table
 unfoldable pub word-for : ℕ → List Entry → Answer (List Entry)

@@ -12,8 +12,10 @@ pub use answers::Position;
 pub use answers::Run;
 pub use answers::Value;
 ghost use mathlib.Core.Path.{_≡_};
-ghost use Rattle.word.specs.Answers.{zipped};
-ghost use Rattle.machine.specs.Calls.{memory, handed, called, word-called, word-for, table-for, refused-at, Readable, Valued, moved-to};
+ghost use mathlib.Core.List.{List};
+ghost use Rattle.theory.specs.Word.{Entry};
+ghost use Rattle.word.specs.Answers.{zipped, gathered, entries-of};
+ghost use Rattle.machine.specs.Calls.{memory, handed, called, word-called, table-called, word-for, table-for, refused-at, Readable, Valued, moved-to};
 use crate::inside::run_numbers;
 use crate::lacking::Lack;
 use crate::lacking::first_lacking;
@@ -21,6 +23,8 @@ use crate::lacking::start_of;
 use crate::memory::is_memory;
 use crate::store::wide;
 use theory::Refusal;
+use word::Gathered;
+use word::Instruction;
 use word::Read;
 
 // A call that a rule turns down.
@@ -107,6 +111,59 @@ pub fn run(
             ended: Ended::Refused(r),
         },
     }
+}
+
+// Runs a table that was gathered into numbers: rules 10, then 11, 13, 14 and 15 as for tables.
+fn run_gathered(
+    m: Machine,
+    store: &mut [u8],
+    lengths: &mut [u16],
+    at: Position,
+    g: Gathered,
+    budget: u32,
+) -> Run
+    requires { ⌜ ((t : List Entry) × (g ≡ gathered t)) ⌝ }
+    ensures { λ r. ⌜ ((t : List Entry) → g ≡ gathered t → handed r (now (store .exit)) (now (lengths .exit))
+        ≡ table-called (memory m (now (store .entry)) (now (lengths .entry))) at budget t) ⌝ }
+{
+    if !is_memory(m, store, lengths) {
+        return turned_down(at, 10, 0);
+    }
+    let answer = g.answer;
+    match answer {
+        Read::Done(count) => {
+            let kinds = g.kinds;
+            let operands = g.operands;
+            run_entries(
+                m,
+                store,
+                lengths,
+                at,
+                &kinds[..count],
+                &operands[..count],
+                budget,
+            )
+        }
+        Read::Refused(r) => Run {
+            position: at,
+            ended: Ended::Refused(r),
+        },
+    }
+}
+
+// Runs a table of instruction records on a machine: rules 10, then 11, 13, 14 and 15, whose places are entries.
+pub fn run_table(
+    m: Machine,
+    store: &mut [u8],
+    lengths: &mut [u16],
+    at: Position,
+    table: &[Instruction],
+    budget: u32,
+) -> Run
+    ensures { λ r. ⌜ handed r (now (store .exit)) (now (lengths .exit))
+        ≡ table-called (memory m (now (store .entry)) (now (lengths .entry))) at budget (entries-of (now (table .entry))) ⌝ }
+{
+    run_gathered(m, store, lengths, at, word::gather(table), budget)
 }
 
 // Register 1, the value of a halted word: rule 10.

@@ -1,22 +1,27 @@
 -- What the entries hand back, from what was read: the answer, and what then stands in the lent memory.
 use mathlib.Core.Path.{_≡_, refl, sym, ap, _∙_}
 use mathlib.Core.Bool.{true, false, _||_}
+use mathlib.Core.Option.{none}
 use mathlib.Core.List.{List, _++_}
 use Prim.Native.Nat.{ℕ, _*_, _≤_, _<_}
 use native.Mathlib.Omega.{arith}
 use borrow.Author.Tests.{lt-leb, le-leb}
 use lib.Dec.{eqb}
 use lib.ListN.{length, take, drop}
-use lib.Seq.{length-take-le}
+use lib.Seq.{sets, length-take-le}
 use Rattle.theory.specs.Text.{Bytes, ends-in-LF}
-use Rattle.theory.specs.ProgramText.{Command, list-of, text-of}
-use Rattle.theory.specs.TurnedDown.{Answer, done, refused, mapped, rule-19, read-text, read-list, lent-after}
+use Rattle.theory.specs.Basics.{present}
+use Rattle.theory.specs.ProgramText.{Command, list-of, text-of, listed}
+use Rattle.theory.specs.TurnedDown.{Answer, done, refused, mapped, rule-19, program-fault, read-text, read-list, lent-after}
 use Rattle.theory.specs.declared.Refusal.{Refusal}
+use Rattle.theory.proofs.Nesting.{list-read}
 use Rattle.theory.proofs.Lists.{lists-round-trip}
 use Rattle.program.specs.declared.Program.{Program}
 use Rattle.program.specs.declared.Checked.{Checked}
+use Rattle.program.specs.declared.Written.{Written}
 use Rattle.program.specs.declared.Checked.the-variants as C
-use Rattle.program.specs.Answers.{program-of, checked, read-into}
+use Rattle.program.specs.declared.Written.the-variants as W
+use Rattle.program.specs.Answers.{program-of, checked, read-into, written, write-into}
 use Rattle.program.specs.Lines.{Lined}
 use Rattle.program.specs.Puts.{Put}
 use Rattle.program.proofs.Puts.{sets-front}
@@ -93,3 +98,41 @@ module _ (t : Bytes) (lent numbers : List ℕ) (lines : ℕ) (d : Lined t number
               let room : length part ≤ length lent = omega (arith, part-length) in
               reads-done t lent part (read .0) (same-read ∙ read .1) (lists-round-trip .1 part (read .0) (read .1)) room q _ (read .2)
               (w .wrote ∙ sets-front lent part room)
+
+-- What `write` promises
+abbrev pub Writes : List ℕ → List ℕ → Written → List ℕ → Type 0
+Writes l lent w out = (w ≡ written (write-into lent l)) × (out ≡ lent-after lent (write-into lent l))
+
+module _ (l lent : List ℕ) {c : Checked} (k : c ≡ checked (read-list l)) where
+  unwritten : (r : Refusal) → write-into lent l ≡ refused r → Writes l lent (W.Refused r) lent
+  unfolding lent-after
+  unwritten r e = (rw e, rw e)
+
+  pub writes-fault : {r : Refusal} → c ≡ C.Refused r → Writes l lent (W.Refused r) lent
+  unfolding write-into
+  writes-fault {r} f = unwritten r (rw (checked-refused (read-list l) k f))
+
+  module _ {q : Program} (f : c ≡ C.Accepted q) where
+    abbrev text : Bytes
+    text = text-of (present (listed l))
+
+    commands : (program-fault (listed l) ≡ none) × (read-list l ≡ done (present (listed l)))
+    commands =
+        let a = checked-accepted (read-list l) k f in
+        let b = list-read l (a .0) (a .1) in
+        (b .0, a .1 ∙ ap done (sym (b .1)))
+
+    pub writes-faultless : program-fault (listed l) ≡ none
+    writes-faultless = commands .0
+
+    module _ (n : ℕ) (size : n ≡ length text) where
+      pub writes-no-room : length lent < n → Writes l lent (W.Refused (record { number = 19; place = 0 })) lent
+      unfolding write-into rule-19
+      writes-no-room h = unwritten _ (rw (commands .1, lt-leb (length text) (length lent) (rw size at h)))
+
+      pub writes-done : n ≤ length lent → (out : List ℕ) → out ≡ sets lent 0 text → Writes l lent (W.Done n) out
+      unfolding write-into rule-19 lent-after
+      writes-done h out e =
+          let room : length text ≤ length lent = rw size at h in
+          let d : write-into lent l ≡ done text = rw (commands .1, le-leb (length text) (length lent) room) in
+          (rw (d, size), rw (d, e) (sets-front lent text room))

@@ -1,11 +1,12 @@
 -- Laws of what is written: names of one digit or two, the lines of commands by their numbers, and the commands that are left to write.
 use mathlib.Core.Path.{_≡_, refl, sym, ap, _∙_}
-use mathlib.Core.List.{List, [], _∷_, _++_}
+use mathlib.Core.List.{List, [], _∷_, _++_, map, append-assoc}
 use Prim.Native.Nat.{ℕ, suc, _+_, _*_, _<_, _≤_, _/_, _%_}
 use native.Mathlib.Omega.{arith}
 use borrow.Author.Tests.{ne-eqb}
 use lib.ListN.{length, length-append}
-use Rattle.theory.specs.Text.{Bytes, bytes, name-of}
+use Rattle.theory.specs.Text.{Bytes, bytes, LF, name-of}
+use Rattle.theory.specs.ProgramText.{clear, increment, copy, loop, while, Command, plain, opens, closes, spelling, text-of, numbers, command-of, listed}
 use Rattle.theory.proofs.Numerals.{decimal-small, decimal-large}
 use Rattle.program.specs.Spellings.{command-line}
 
@@ -50,3 +51,37 @@ module _ (k i j : ℕ) where
       → command-line k i j ≡ bytes "endwhile " ++ (name-of i ++ bytes " != 0\n")
   unfolding command-line
   line-7 n1 n2 n3 n4 n5 n6 = rw (ne-eqb k 1 n1, ne-eqb k 2 n2, ne-eqb k 3 n3, ne-eqb k 4 n4, ne-eqb k 5 n5, ne-eqb k 6 n6)
+
+-- The line of three numbers is that of the command that they are
+pub line-spelled : (k i j : ℕ) (c : Command) → numbers c ≡ k ∷ i ∷ j ∷ [] → command-line k i j ≡ spelling c ++ (LF ∷ [])
+unfolding spelling
+line-spelled k i j (plain (clear a)) e =
+    let ek : k ≡ 1 = cc in
+    let ei : i ≡ a = cc in
+    line-1 k i j ek ∙ rw (ei, append-assoc (name-of a) (bytes " <- 0") (LF ∷ []))
+line-spelled k i j (plain (increment a)) e =
+    let ek : k ≡ 2 = cc in
+    let ei : i ≡ a = cc in
+    line-2 k i j ek ∙ rw ei (simp append-assoc)
+line-spelled k i j (plain (copy a b)) e =
+    let ek : k ≡ 3 = cc in
+    let ei : i ≡ a = cc in
+    let ej : j ≡ b = cc in
+    line-3 k i j ek ∙ rw (ei, ej) (simp append-assoc)
+line-spelled k i j (opens loop a) e =
+    let ek : k ≡ 4 = cc in
+    let ei : i ≡ a = cc in
+    line-4 k i j ek ∙ rw ei
+line-spelled k i j (closes loop a) e =
+    let ek : k ≡ 5 = cc in
+    let ei : i ≡ a = cc in
+    line-5 k i j ek ∙ rw ei
+line-spelled k i j (opens while a) e =
+    let ek : k ≡ 6 = cc in
+    let ei : i ≡ a = cc in
+    line-6 k i j ek ∙ rw ei (simp append-assoc)
+line-spelled k i j (closes while a) e =
+    let ek : k ≡ 7 = cc in
+    let ei : i ≡ a = cc in
+    line-7 k i j (λ f. omega arith) (λ f. omega arith) (λ f. omega arith) (λ f. omega arith) (λ f. omega arith) (λ f. omega arith)
+    ∙ rw ei (simp append-assoc)

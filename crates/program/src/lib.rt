@@ -14,7 +14,7 @@ ghost use lib.ListN.{length};
 ghost use Rattle.theory.specs.Text.{ends-in-LF};
 ghost use Rattle.theory.specs.ProgramText.{list-of};
 ghost use Rattle.theory.specs.TurnedDown.{mapped, read-list, lent-after};
-ghost use Rattle.program.specs.Answers.{checked, read-into};
+ghost use Rattle.program.specs.Answers.{checked, read-into, written, write-into};
 
 // What is known of an accepted program: its number of commands, and K, the highest index named plus 1.
 pub struct Program {
@@ -137,6 +137,27 @@ pub fn read(text: &[u8], list: &mut [u8]) -> Checked
             }
             spell::put_bytes(list, 0, &numbers[..count]);
             Checked::Accepted(program)
+        }
+    }
+}
+
+// A list written into a lent text: rules 3 to 8, then 19.
+pub fn write(list: &[u8], text: &mut [u8]) -> Written
+    ensures { λ r. ⌜ r ≡ written (write-into (now (text .entry)) (now (list .entry))) ⌝ }
+    ensures { λ _. ⌜ now (text .exit) ≡ lent-after (now (text .entry)) (write-into (now (text .entry)) (now (list .entry))) ⌝ }
+{
+    match check_list(list) {
+        Checked::Refused(r) => Written::Refused(r),
+        Checked::Accepted(_) => {
+            let size = spell::text_size(list);
+            if text.len() < size {
+                return Written::Refused(Refusal {
+                    number: 19,
+                    place: 0,
+                });
+            }
+            spell::put_text(list, text);
+            Written::Done(size)
         }
     }
 }

@@ -4,6 +4,7 @@ ghost use mathlib.Core.Option.{none};
 ghost use mathlib.Core.List.{_++_};
 ghost use Prim.Native.Nat.{_+_, _≤_, _<_};
 ghost use lib.ListN.{length};
+ghost use lib.Seq.{sets};
 ghost use Rattle.theory.specs.Basics.{present};
 ghost use Rattle.theory.specs.Text.{name-of};
 ghost use Rattle.theory.specs.ProgramText.{listed, text-of};
@@ -90,5 +91,32 @@ fn command_size(kind: u8, index: u8, source: u8) -> usize
         5 => size + 9,
         6 => size + 12,
         _ => size + 15,
+    }
+}
+
+// The bytes of the text of an accepted list.
+pub fn text_size(list: &[u8]) -> usize
+    requires { ⌜ program-fault (listed (now list)) ≡ none ⌝ }
+    ensures { λ r. ⌜ r ≡ length (text-of (present (listed (now (list .entry))))) ⌝ }
+{
+    let mut i = 0;
+    let mut size = 0;
+    while i + 2 < list.len() {
+        size += command_size(list[i], list[i + 1], list[i + 2]);
+        i += 3;
+    }
+    size
+}
+
+// The text of an accepted list, at the front of a slice that has room for it.
+pub fn put_text(list: &[u8], text: &mut [u8])
+    requires { ⌜ (program-fault (listed (now list)) ≡ none) × (length (text-of (present (listed (now list)))) ≤ length (now text)) ⌝ }
+    ensures { λ _. ⌜ now (text .exit) ≡ sets (now (text .entry)) 0 (text-of (present (listed (now (list .entry))))) ⌝ }
+{
+    let mut i = 0;
+    let mut at = 0;
+    while i + 2 < list.len() {
+        at = put_command(text, at, list[i], list[i + 1], list[i + 2]);
+        i += 3;
     }
 }

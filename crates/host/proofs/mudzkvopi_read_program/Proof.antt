@@ -1,0 +1,25 @@
+-- `mudzkvopi_read_program` meets its contract, since `program::read` meets its own.
+use borrow.Author.Needs.{needs}
+use mathlib.Core.Path.{ap, _∙_}
+use Rattle.host.specs.Answered.{program-read}
+use Rattle.host.proofs.Packs.{packs-program-read}
+use Rattle.host.proofs.mudzkvopi_read_program.Statement.{statement}
+use Rattle.host.proofs.mudzkvopi_read_program.Tie as tie
+
+read-requires : tie.Need-read-requires
+read-requires c κs = search needs
+
+program-read-requires : tie.Need-program-read-requires
+program-read-requires c κs = search needs
+
+same-length : tie.Need-same-length
+same-length c = search needs
+
+returns : tie.Need-returns
+returns c =
+    let read = c .before .before .before .read .ensures in
+    record { result = c .program-read .ensures ∙ ap program-read (read .0) ∙ packs-program-read _; list-after = read .1 }
+
+pub mudzkvopi-read-program-spec : {M : Type 1} → statement M
+mudzkvopi-read-program-spec =
+    tie.close (tie.spec read-requires program-read-requires same-length returns)

@@ -1,0 +1,25 @@
+-- `mudzkvopi_translate` meets its contract, since `translation::translate_text` meets its own.
+use borrow.Author.Needs.{needs}
+use mathlib.Core.Path.{ap, _∙_}
+use Rattle.host.specs.Answered.{translated}
+use Rattle.host.proofs.Packs.{packs-translated}
+use Rattle.host.proofs.mudzkvopi_translate.Statement.{statement}
+use Rattle.host.proofs.mudzkvopi_translate.Tie as tie
+
+translate-text-requires : tie.Need-translate-text-requires
+translate-text-requires c κs = search needs
+
+translated-requires : tie.Need-translated-requires
+translated-requires c κs = search needs
+
+same-length : tie.Need-same-length
+same-length c = search needs
+
+returns : tie.Need-returns
+returns c =
+    let given = c .before .before .before .translate-text .ensures in
+    record { result = c .translated .ensures ∙ ap translated (given .0) ∙ packs-translated _; word-after = given .1 }
+
+pub mudzkvopi-translate-spec : {M : Type 1} → statement M
+mudzkvopi-translate-spec =
+    tie.close (tie.spec translate-text-requires translated-requires same-length returns)

@@ -1,0 +1,25 @@
+-- `mudzkvopi_translate_list` meets its contract, since `translation::translate_list` meets its own.
+use borrow.Author.Needs.{needs}
+use mathlib.Core.Path.{ap, _∙_}
+use Rattle.host.specs.Answered.{translated}
+use Rattle.host.proofs.Packs.{packs-translated}
+use Rattle.host.proofs.mudzkvopi_translate_list.Statement.{statement}
+use Rattle.host.proofs.mudzkvopi_translate_list.Tie as tie
+
+translate-list-requires : tie.Need-translate-list-requires
+translate-list-requires c κs = search needs
+
+translated-requires : tie.Need-translated-requires
+translated-requires c κs = search needs
+
+same-length : tie.Need-same-length
+same-length c = search needs
+
+returns : tie.Need-returns
+returns c =
+    let given = c .before .before .before .translate-list .ensures in
+    record { result = c .translated .ensures ∙ ap translated (given .0) ∙ packs-translated _; word-after = given .1 }
+
+pub mudzkvopi-translate-list-spec : {M : Type 1} → statement M
+mudzkvopi-translate-list-spec =
+    tie.close (tie.spec translate-list-requires translated-requires same-length returns)
