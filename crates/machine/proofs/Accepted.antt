@@ -13,7 +13,7 @@ use Rattle.theory.specs.Word.{Entry}
 use Rattle.theory.specs.Claims.{EachOf}
 use Rattle.theory.specs.TurnedDown.{names-register, lacks, first-entry, first-along, total, entry-size, table-fault, rule-15, refuse}
 use Rattle.theory.proofs.Faults.{none-first, none-second, given-none}
-use Rattle.theory.proofs.Words.{Formed, GoodTable, table-good}
+use Rattle.theory.proofs.Words.{Formed, table-good}
 use Rattle.word.specs.Answers.{zipped}
 use Rattle.machine.specs.Steps.{Usable, Usables}
 use Rattle.machine.specs.Lacking.{first-lacking}

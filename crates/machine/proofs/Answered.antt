@@ -1,15 +1,12 @@
 -- What a call of a run answers, rule by rule.
-use mathlib.Core.Path.{_≡_, refl, sym, ap, _∙_}
-use mathlib.Core.Bool.{Bool, true, false}
+use mathlib.Core.Path.{_≡_, refl}
 use mathlib.Core.Option.{Option, none, some}
 use mathlib.Core.List.{List}
 use Prim.Native.Nat.{ℕ}
 use Rattle.theory.specs.Word.{Entry}
-use Rattle.theory.specs.TurnedDown.{Answer, done, refused, rule-15, table-rule-15, total, refuse}
-use Rattle.theory.specs.declared.Refusal.{Refusal}
+use Rattle.theory.specs.TurnedDown.{done, refused, table-rule-15, total}
 use native.Mathlib.Omega.{arith}
 use lib.ListN.{take}
-use Rattle.machine.specs.declared.lacking.Lack.{Lack}
 use Rattle.machine.specs.declared.lacking.Lack.the-variants.{At, Nothing}
 use Rattle.machine.specs.Lacking.{first-lacking, lack-of}
 use Rattle.machine.specs.Calls.{word-for, table-for}
@@ -25,7 +22,8 @@ found-none none e = refl
 found-none (some j) e = let z : _≡_ {A = ℕ} 0 1 = cc in absurd (omega arith)
 
 module _ (registers : ℕ) (t : List Entry) where
-  pub word-lacks : (i : ℕ) → first-lacking registers t ≡ some i → word-for registers t ≡ refused (record { number = 15; place = total (take i t) })
+  pub word-lacks : (i : ℕ) → first-lacking registers t ≡ some i → word-for registers t ≡ refused
+      (record { number = 15; place = total (take i t) })
   unfolding word-for
   word-lacks i h = rw (rule-15-at registers t i h)
 

@@ -18,7 +18,8 @@ Spelt k n o = (i : Instruction) × (o ≡ some i) × (W.kind i ≡ k) × (W.oper
 
 usable-is : (registers k n : ℕ) → Usable registers k n → Spelt k n (instruction-of (record { kind = k; operand = n }))
 usable-is registers k n u =
-    let (i, is, same) = instruction-formed (record { kind = k; operand = n }) (record { operand = u .some; kind = u .first; at-most = u .last }) in
+    let (i, is, same) = instruction-formed (record { kind = k; operand = n })
+    (record { operand = u .some; kind = u .first; at-most = u .last }) in
     (i, is, ap (λ (e : Entry). e .kind) same, ap (λ (e : Entry). e .operand) same)
 
 module _ (registers : ℕ) where

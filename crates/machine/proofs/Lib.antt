@@ -16,3 +16,4 @@ pub mod Answered
 pub mod ReadWord
 pub mod RegisterOne
 pub mod ReadTable
+pub mod Values

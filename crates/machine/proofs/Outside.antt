@@ -1,17 +1,16 @@
 -- Where a run stands: at an instruction, or ended, by the number that it keeps for its place.
-use mathlib.Core.Path.{_≡_, refl, sym, ap, _∙_}
+use mathlib.Core.Path.{_≡_, refl, ap}
 use mathlib.Core.Bool.{Bool, true, false, cond}
-use mathlib.Core.Option.{Option, none, some}
+use mathlib.Core.Option.{none, some}
 use mathlib.Core.List.{List}
-use Prim.Native.Nat.{ℕ, zero, suc, _+_, _-_, _≤_, _<_}
+use Prim.Native.Nat.{ℕ, suc, _+_, _-_, _≤_, _<_}
 use native.Mathlib.Omega.{arith}
 use borrow.Author.Tests.{lt-ltb, le-ltb, le-leb, lt-leb, eq-eqb, ne-eqb, eqb-true, eqb-false}
 use lib.Dec.{eqb}
-use lib.IntN.{ℤ, pos, negsuc}
-use lib.ListN.{length, getElem?}
+use lib.IntN.{pos, negsuc}
+use lib.ListN.{getElem?}
 use Rattle.theory.specs.Basics.{at}
 use Rattle.theory.specs.Word.{Instruction, ended-at, fetch}
-use Rattle.theory.specs.declared.End.{End}
 use Rattle.theory.specs.declared.End.the-variants.{Halted, Strayed}
 use Rattle.machine.specs.Steps.{bias, placed}
 use Rattle.machine.specs.Inside.{end-past}

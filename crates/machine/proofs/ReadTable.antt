@@ -9,7 +9,7 @@ use lib.ListN.{length, take, drop, length-append, length-map}
 use lib.Seq.{take-at}
 use Rattle.theory.specs.Word.{Entry}
 use Rattle.theory.specs.Machines.{Memory, is-memory}
-use Rattle.theory.specs.TurnedDown.{answer, done, read-table, read-table-for, table-fault, rule-10, lent-after, mapped}
+use Rattle.theory.specs.TurnedDown.{answer, done, read-table, read-table-for, table-fault, rule-10, lent-after}
 use Rattle.theory.specs.declared.Refusal.{Refusal}
 use Rattle.word.specs.declared.answers.Gathered.{Gathered}
 use Rattle.word.specs.declared.answers.Read.the-variants as R
@@ -55,12 +55,22 @@ module _ (t : List Entry) (g : Gathered) (is : g ≡ gathered t) where
 
     pub kinds-room : n ≤ length (g .kinds)
     unfolding lent-after
-    kinds-room = rw kinds-are (omega (arith, length-append (kinds-of t) (drop (length (kinds-of t)) no-numbers), length-map t (λ e. e .kind)))
+    kinds-room = rw kinds-are (omega (
+      arith,
+      length-append (kinds-of t) (drop (length (kinds-of t)) no-numbers),
+      length-map t
+          (λ e. e .kind),
+    ))
 
     pub operands-room : n ≤ length (g .operands)
     unfolding lent-after
     operands-room =
-        rw operands-are (omega (arith, length-append (operands-of t) (drop (length (operands-of t)) no-numbers), length-map t (λ e. e .operand)))
+        rw operands-are (omega (
+          arith,
+          length-append (operands-of t) (drop (length (operands-of t)) no-numbers),
+          length-map t
+              (λ e. e .operand),
+        ))
 
 -- The answers of a run of a table
 

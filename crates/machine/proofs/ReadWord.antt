@@ -1,29 +1,29 @@
 -- A word read into two arrays that have room for every word: what comes of it, rule by rule.
-use mathlib.Core.Path.{_≡_, refl, sym, ap, ap₂, _∙_}
-use mathlib.Core.Bool.{Bool, true, false}
+use mathlib.Core.Path.{_≡_, refl, sym, ap, _∙_}
+use mathlib.Core.Bool.{true, false}
 use mathlib.Core.Option.{Option, none, some}
-use mathlib.Core.List.{List, [], _∷_, _++_}
+use mathlib.Core.List.{List, [], _∷_}
 use Prim.Native.Nat.{ℕ, _≤_}
 use native.Mathlib.Omega.{arith}
 use borrow.Author.Tests.{leb-true, le-leb}
 use lib.Dec.{leb}
-use lib.ListN.{length, take, drop, length-map}
+use lib.ListN.{length, take, length-map}
 use lib.Seq.{take-at}
 use Rattle.theory.specs.Text.{Bytes}
 use Rattle.theory.specs.Limits
 use Rattle.theory.specs.Basics.{or-else}
 use Rattle.theory.specs.Word.{Entry, byte-of, bytes-of, spell-entries}
 use Rattle.theory.specs.Machines.{Memory, is-memory}
-use Rattle.theory.specs.TurnedDown.{Answer, done, refused, answer, after, total, word-fault, word-entries, table-fault, read-word}
-use Rattle.theory.specs.TurnedDown.{rule-10, rule-11, rule-12, rule-13, rule-14, rule-19, read-word-for, lent-after, mapped}
+use Rattle.theory.specs.TurnedDown.{done, answer, after, total, word-fault, word-entries, read-word}
+use Rattle.theory.specs.TurnedDown.{rule-10, rule-11, rule-12, rule-13, rule-14, rule-19, read-word-for, lent-after}
 use Rattle.theory.specs.declared.Refusal.{Refusal}
 use Rattle.theory.proofs.Faults.{and-second, and-first, none-first, none-second, none-refused, unless-none}
-use Rattle.theory.proofs.Words.{GoodTable, good-table, formed-of-word, total-length, word-round-trip}
+use Rattle.theory.proofs.Words.{GoodTable, formed-of-word, total-length, word-round-trip}
 use Rattle.word.specs.declared.answers.Read.{Read}
 use Rattle.word.specs.declared.answers.Read.the-variants as R
-use Rattle.word.specs.Answers.{kinds-of, operands-of, zipped, read-answer, read-into, ReadsInto}
+use Rattle.word.specs.Answers.{kinds-of, operands-of, zipped, read-answer, read-into, Reads}
 use Rattle.machine.specs.declared.answers.Position.{Position}
-use Rattle.machine.specs.Calls.{called, checked, turned-down, word-called, word-for}
+use Rattle.machine.specs.Calls.{called, turned-down, word-called, word-for}
 
 pub zipped-of : (t : List Entry) → zipped (kinds-of t) (operands-of t) ≡ t
 unfolding zipped
@@ -83,7 +83,7 @@ module _ (w : Bytes) (kinds operands : List ℕ) (k : length kinds ≡ 8192) (o 
             le-leb (length (word-entries w)) (length operands) (omega (arith, few, o)),
           )
 
-  module _ {r : Read} {kinds′ operands′ : List ℕ} (h : ReadsInto w kinds operands r kinds′ operands′) where
+  module _ {r : Read} {kinds′ operands′ : List ℕ} (h : Reads w kinds operands r kinds′ operands′) where
     answers : r ≡ read-answer (answer (word-fault w) (word-entries w))
     unfolding read-word
     answers = h .0 ∙ ap read-answer read-is

@@ -1,23 +1,22 @@
 -- Registers in a lent store: one register's place and length changed, and nothing else.
-use mathlib.Core.Path.{_≡_, refl, sym, ap, ap₂, _∙_}
+use mathlib.Core.Path.{_≡_, refl, sym, _∙_}
 use mathlib.Core.Logic.{_≢_}
 use mathlib.Core.Bool.{Bool, true, false}
-use mathlib.Core.List.{List, [], _∷_, _++_, append-assoc, append-nil, map}
-use Prim.Native.Nat.{ℕ, zero, suc, _+_, _-_, _*_, _≤_, _<_}
+use mathlib.Core.List.{List, _++_, append-assoc, append-nil}
+use Prim.Native.Nat.{ℕ, zero, suc, _+_, _*_, _≤_, _<_}
 use native.Mathlib.Nat.{suc-mul, mul-le-mul-right}
 use native.Mathlib.Omega.{arith}
 use borrow.Author.Tests.{eqb-true, eqb-false}
 use borrow.Rule.Slice.PartMut.{putMid}
 use lib.Dec.{eqb}
-use lib.ListN.{length, take, drop, getD, set, length-set, length-drop, length-append, drop-of-length-le}
+use lib.ListN.{length, drop, getD, set, length-set, length-drop, drop-of-length-le}
 use lib.Seq.{take-at, drop-at, take-append-le, drop-append-le, ext-getD, getD-set-same, getD-set-other}
-use Rattle.theory.specs.Basics.{cells, put}
+use Rattle.theory.specs.Basics.{put}
 use Rattle.theory.specs.Text.{Bytes}
 use Rattle.theory.specs.Word.{Symbol}
 use Rattle.theory.specs.Machines.{laid, store-of, lengths-of}
-use Rattle.theory.proofs.Cells.{put-same, put-other, put-ind}
-use Rattle.theory.proofs.GoodMemory.{Fits, length-laid, length-store, length-cells, getD-cells, place-in-store}
-use Rattle.machine.specs.Held.{Held}
+use Rattle.theory.proofs.Cells.{put-same, put-other}
+use Rattle.theory.proofs.GoodMemory.{Fits, length-laid, length-store, length-cells, getD-cells}
 
 -- The store of other contents of register i, counted from 0, is the store with other bytes in its place
 module _ (capacity : ℕ) (f : ℕ → List Symbol) (xs : List Symbol) where

@@ -42,7 +42,8 @@ module _ (m : Memory) where
                 rw (le-leb 1 (m .registers) r, le-leb (m .registers) 64 r′, le-leb 1 (m .capacity) c, le-leb (m .capacity) 1024 c′)
                 (rw (eq-eqb _ _ (s ∙ sym (offset-suc (m .capacity) (m .registers))), ne-eqb _ _ h))
 
-            pub by-places : length (m .lengths) ≡ m .registers → is-memory m ≡ places-laid (length (m .lengths)) (m .capacity) (m .store) (m .lengths)
+            pub by-places : length (m .lengths) ≡ m .registers → is-memory m ≡ places-laid (length (m .lengths)) (m .capacity)
+                (m .store) (m .lengths)
             unfolding is-memory places-laid
             by-places l =
                 rw (le-leb 1 (m .registers) r, le-leb (m .registers) 64 r′, le-leb 1 (m .capacity) c, le-leb (m .capacity) 1024 c′)

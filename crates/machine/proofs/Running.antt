@@ -1,6 +1,6 @@
 -- A run from inside, between its steps: the registers that the lent store holds, and what of the definition's run is still to come.
 use mathlib.Core.Path.{_≡_, refl, sym, ap, _∙_}
-use mathlib.Core.Bool.{true, false}
+use mathlib.Core.Bool.{true}
 use mathlib.Core.Logic.{⊎-elim}
 use mathlib.Core.Option.{Option, none, some}
 use mathlib.Core.List.{List}
@@ -10,7 +10,7 @@ use borrow.Author.Tests.{lt-ltb, le-ltb, leb-true}
 use lib.Dec.{ltb, leb}
 use lib.ListN.{length, getD, getElem?}
 use Rattle.theory.specs.Limits.{last-count}
-use Rattle.theory.specs.Runs.{Machine, Outcome, within}
+use Rattle.theory.specs.Runs.{Outcome, within}
 use Rattle.theory.specs.Word as W
 use Rattle.theory.specs.Word.{Symbol, ended-at}
 use Rattle.theory.specs.Machines.{contents, is-memory}
@@ -66,7 +66,8 @@ module _ (capacity : ℕ) (store₀ lengths₀ kinds operands : List ℕ) (from 
       record {
         registers = contents (lent capacity store₀ lengths₀);
         held = memory-held capacity store₀ lengths₀ good;
-        left = rw (b, n) (underway-start (machine-of capacity kinds operands) budget steps (state from (contents (lent capacity store₀ lengths₀))));
+        left = rw (b, n) (underway-start (machine-of capacity kinds operands) budget steps
+            (state from (contents (lent capacity store₀ lengths₀))));
         done = omega arith;
         near = near;
         stores = refl;

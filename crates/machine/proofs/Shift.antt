@@ -14,7 +14,13 @@ shifted-none l = refl
 
 pub shifted-length : (n : ℕ) (l : List ℕ) → n < length l → length (shifted n l) ≡ length l
 unfolding shifted
-shifted-length n l h = omega (arith, length-append (take n (drop 1 l)) (drop n l), length-take-le n (drop 1 l) (omega (arith, length-drop 1 l)), length-drop n l)
+shifted-length n l h = omega (
+  arith,
+  length-append (take n (drop 1 l)) (drop n l),
+  length-take-le n (drop 1 l)
+      (omega (arith, length-drop 1 l)),
+  length-drop n l,
+)
 
 module _ (i : ℕ) (l : List ℕ) (h : i + 1 < length l) where
   front : length (take i (drop 1 l)) ≡ i
@@ -34,5 +40,7 @@ module _ (i : ℕ) (l : List ℕ) (h : i + 1 < length l) where
       go : (v : ℕ) → getD (drop 1 l) i 0 ≡ v → set (shifted i l) i v ≡ shifted (i + 1) l
       go v e =
           let c : drop i l ≡ getD l i 0 ∷ drop (suc i) l = drop-cons l i 0 (omega arith) in
-          let t : take (suc i) (drop 1 l) ≡ take i (drop 1 l) ++ (getD (drop 1 l) i 0 ∷ []) = take-suc (drop 1 l) i 0 (omega (arith, length-drop 1 l)) in
-          rw (add-one i, c, t, e, append-snoc (take i (drop 1 l)) v (drop (suc i) l)) (set-at (take i (drop 1 l)) (getD l i 0) (drop (suc i) l) v i front)
+          let t : take (suc i) (drop 1 l) ≡ take i (drop 1 l) ++ (getD (drop 1 l) i 0 ∷ []) = take-suc (drop 1 l) i 0
+          (omega (arith, length-drop 1 l)) in
+          rw (add-one i, c, t, e, append-snoc (take i (drop 1 l)) v (drop (suc i) l)) (set-at (take i (drop 1 l)) (getD l i 0)
+          (drop (suc i) l) v i front)

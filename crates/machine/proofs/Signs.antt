@@ -1,16 +1,16 @@
 -- The few facts on signed places: by cases on the sign, once.
 
-use mathlib.Core.Path.{_≡_, refl, sym, ap, _∙_, subst}
+use mathlib.Core.Path.{_≡_, refl, ap, _∙_, subst}
 use mathlib.Core.Bool.{Bool, true, false}
-use Prim.Native.Nat.{ℕ, zero, suc, _+_, _-_, _<_, _≤_, _^_}
+use Prim.Native.Nat.{ℕ, zero, suc, _-_, _<_, _≤_, _^_}
 use native.Mathlib.Omega.{arith}
 use borrow.Author.Tests.{lt-ltb, le-ltb, ltb-true}
-use lib.Dec.{T, ltb}
+use lib.Dec.{T}
 use lib.IntN.{ℤ, pos, negsuc, negℤ, subℕ, natAbs, _-ℤ_, +ℤ-idl}
 use lib.Signed.{ltZ, nonNeg}
 use mir.Syntax.{w32}
-use mir.Val.{SFits, Fits, toZ, ofZ}
-use mir.Facts.{sfits-lit, toZ-ofZ, fits-natAbs, toZ-pos}
+use mir.Val.{SFits, toZ}
+use mir.Facts.{sfits-lit, toZ-pos}
 use Rattle.machine.specs.Steps.{number-of}
 
 pub sfits-neg : (n : ℕ) → n < 2 ^ 31 → SFits w32 (negℤ (pos n))

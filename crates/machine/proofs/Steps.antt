@@ -1,21 +1,19 @@
 -- One instruction as the definition has it: places as numbers, and what each kind does.
-use mathlib.Core.Path.{_≡_, refl, sym, ap, ap₂, _∙_}
+use mathlib.Core.Path.{_≡_, refl, sym, ap, _∙_}
 use mathlib.Core.Bool.{Bool, true, false, cond}
-use mathlib.Core.Option.{Option, none, some}
 use mathlib.Core.List.{List, [], _∷_, _++_}
-use Prim.Native.Nat.{ℕ, suc, _+_, _-_, _≤_, _<_}
+use Prim.Native.Nat.{ℕ, suc, _+_, _-_, _≤_}
 use native.Mathlib.Omega.{arith}
 use borrow.Author.Tests.{le-leb, lt-leb}
 use lib.Dec.{eqb}
 use lib.IntN.{ℤ, pos, negsuc, _+ℤ_, _-ℤ_, +ℤ-assoc, +ℤ-comm, +ℤ-negℤ-cancel}
 use lib.ListN.{length}
 use Rattle.theory.specs.Basics.{put}
-use Rattle.theory.specs.Runs.{within}
 use Rattle.theory.specs.Word as W
-use Rattle.theory.specs.Word.{Symbol, one, hash, Instruction, append, forward, backward, cases, perform, byte-of}
-use Rattle.machine.specs.declared.effect.Step.the-variants.{To, Full}
+use Rattle.theory.specs.Word.{Symbol, one, hash, Instruction, append, forward, backward, cases}
+use Rattle.machine.specs.declared.effect.Step.the-variants.{To}
 use Rattle.machine.specs.Held.{Held, Appended, Deleted}
-use Rattle.machine.specs.Steps.{Performed, placed, state, next-if, by-byte}
+use Rattle.machine.specs.Steps.{Performed, placed, next-if, by-byte}
 
 -- Places
 
@@ -82,8 +80,12 @@ by-byte-small b = go (eqb b 0) (eqb b 49)
 module _ (capacity : ℕ) (f : ℕ → List Symbol) (here : ℕ) (store lengths : List ℕ) where
   pub did-append : (r : ℕ) (x : Symbol) (room : Bool) → Appended capacity f r x room store lengths
       → Performed capacity f here (append x (suc r)) (next-if room here) store lengths
-  did-append r x true h =
-      (put f (suc r) (f (suc r) ++ (x ∷ [])), rw (le-leb (suc (length (f (suc r)))) capacity (h .0), place-forward here 1), h .1, omega arith)
+  did-append r x true h = (
+    put f (suc r) (f (suc r) ++ (x ∷ [])),
+    rw (le-leb (suc (length (f (suc r)))) capacity (h .0), place-forward here 1),
+    h .1,
+    omega arith,
+  )
   did-append r x false h = (rw (lt-leb (suc (length (f (suc r)))) capacity (omega (arith, h .0))), h .1)
 
   pub did-forward : (n : ℕ) → n ≤ 600000 → Held capacity f store lengths

@@ -1,19 +1,19 @@
 -- A whole run of instructions that the machine can do: from outside, and from inside.
 use mathlib.Core.Path.{_≡_, refl, sym, ap, ap₂, _∙_, subst, fun-ext}
-use mathlib.Core.Bool.{true, false}
+use mathlib.Core.Bool.{true}
 use mathlib.Core.Option.{some}
 use mathlib.Core.List.{List}
-use Prim.Native.Nat.{ℕ, zero, suc, _+_, _-_, _≤_, _<_}
+use Prim.Native.Nat.{ℕ, zero, suc, _+_, _≤_, _<_}
 use native.Mathlib.Nat.{add-zero}
 use native.Mathlib.Omega.{arith}
 use borrow.Author.Tests.{le-leb, lt-leb, ne-eqb}
 use lib.IntN.{ℤ, pos, negsuc}
 use lib.ListN.{length}
 use Rattle.theory.specs.Limits.{last-count}
-use Rattle.theory.specs.Runs.{Outcome, run, within}
+use Rattle.theory.specs.Runs.{Outcome, within}
 use Rattle.theory.specs.Word as W
 use Rattle.theory.specs.Word.{ended-at}
-use Rattle.theory.specs.Machines.{Memory, store-of, lengths-of, contents, is-memory, run-word}
+use Rattle.theory.specs.Machines.{store-of, lengths-of, contents, is-memory, run-word}
 use Rattle.theory.specs.TurnedDown.{instructions}
 use Rattle.theory.specs.declared.End.the-variants.{Strayed}
 use Rattle.theory.proofs.Budgets.{run-ended, count-within}
@@ -64,17 +64,20 @@ module _ (m : Machine) (store lengths : List ℕ) (good : is-memory (memory m st
     abbrev o : Outcome W.State
     o = run-word (instructions (zipped kinds operands)) (memory m store lengths) (position p) budget
 
-    pub whole-outside : ended-at (length kinds) (p .place) ≡ some Strayed → handed (stands-outside p) store lengths ≡ ran (memory m store lengths) p o
+    pub whole-outside : ended-at (length kinds) (p .place) ≡ some Strayed → handed (stands-outside p) store lengths ≡ ran
+        (memory m store lengths) p o
     unfolding run-word
     whole-outside h =
         let g = memory-is-good (memory m store lengths) good in
         let w = instructions (zipped kinds operands) in
         let size = instructions-length (m .registers) kinds operands (u .paired) (u .each) in
-        let e = run-ended (W.machine (within (m .capacity)) w) budget (p .steps) (record { place = p .place; registers = contents (memory m store lengths) })
+        let e = run-ended (W.machine (within (m .capacity)) w) budget (p .steps)
+        (record { place = p .place; registers = contents (memory m store lengths) })
         Strayed (ap (λ (L : ℕ). ended-at L (p .place)) size ∙ h) in
         rw (e, contents-stored (memory m store lengths) g, contents-counted (memory m store lengths) g, add-zero)
 
-    pub whole-is : 1 ≤ number-of (p .place) → run-from kinds operands (lent (m .capacity) store lengths) (bias + number-of (p .place)) (p .steps) budget ≡ o
+    pub whole-is : 1 ≤ number-of (p .place) → run-from kinds operands (lent (m .capacity) store lengths) (bias + number-of (p .place))
+        (p .steps) budget ≡ o
     unfolding run-word
     whole-is h = rw (place-inside (p .place) h, same-contents)
 
@@ -85,12 +88,20 @@ module _ (m : Machine) (store lengths : List ℕ) (good : is-memory (memory m st
 
     pub whole-stopped : (s : Stop) (there : ℤ) (store′ lengths′ : List ℕ) → there ≡ placed (s .here) → length lengths′ ≡ length lengths
         → Stopped (m .capacity) o s store′ lengths′
-        → handed (record { position = record { place = there; steps = p .steps + s .steps }; ended = Ran (s .end) (s .steps) }) store′ lengths′
+        → handed (record {
+          position = record { place = there; steps = p .steps + s .steps };
+          ended = Ran (s .end)
+              (s .steps);
+        }) store′ lengths′
         ≡ ran (memory m store lengths) p o
     whole-stopped s there store′ lengths′ e l h =
         let c : length lengths′ ≡ m .registers = l ∙ lent-count in
         let f = o .state .registers in
-        let r : Run = record { position = record { place = o .state .place; steps = p .steps + o .steps }; ended = Ran (o .end) (o .steps) } in
+        let r : Run = record {
+          position = record { place = o .state .place; steps = p .steps + o .steps };
+          ended = Ran (o .end)
+              (o .steps);
+        } in
         rw (e, ← h .place, ← h .end, ← h .steps)
         (ap₂ {C = Called} (λ a b. handed r a b)
         (h .held .stored ∙ ap (λ (n : ℕ). store-of (m .capacity) n f) c)

@@ -11,7 +11,8 @@ use Rattle.theory.specs.Word as W
 use Rattle.theory.specs.Word.{Symbol, Entry, bytes-of}
 use Rattle.theory.specs.Machines as M
 use Rattle.theory.specs.Machines.{Memory, contents, refilled, is-memory, run-word}
-use Rattle.theory.specs.TurnedDown.{Answer, done, refused, answer, after, mapped, rule-10, rule-15, table-rule-15, table-fault, instructions}
+use Rattle.theory.specs.TurnedDown.{Answer, done, refused, answer, after}
+use Rattle.theory.specs.TurnedDown.{mapped, rule-10, rule-15, table-rule-15, table-fault, instructions}
 use Rattle.theory.specs.TurnedDown.{read-word-for, read-table-for}
 use Rattle.theory.specs.declared.End.the-variants as End
 use Rattle.theory.specs.declared.Refusal.{Refusal}

@@ -3,3 +3,4 @@ pub mod Steps
 pub mod Lacking
 pub mod Inside
 pub mod Calls
+pub mod Values

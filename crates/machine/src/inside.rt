@@ -61,7 +61,8 @@ fn run_inside(
     requires { ⌜ (is-memory (lent capacity (now store) (now lengths)) ≡ true) × Usables (length (now lengths)) (now kinds) (now operands)
         × (from ≤ bias + length (now kinds) + 1) ⌝ }
     ensures { λ r. ⌜ Stopped capacity
-        (run-from (now (kinds .entry)) (now (operands .entry)) (lent capacity (now (store .entry)) (now (lengths .entry))) from steps budget)
+        (run-from (now (kinds .entry)) (now (operands .entry)) (lent capacity (now (store .entry)) (now (lengths .entry)))
+        from steps budget)
         r (now (store .exit)) (now (lengths .exit)) ⌝ }
 {
     let last = BIAS + kinds.len() as u32;
@@ -127,7 +128,8 @@ pub fn run_numbers(
 ) -> Run
     requires { ⌜ (is-memory (memory m (now store) (now lengths)) ≡ true) × Usables (m .registers) (now kinds) (now operands) ⌝ }
     ensures { λ r. ⌜ handed r (now (store .exit)) (now (lengths .exit))
-        ≡ called (memory m (now (store .entry)) (now (lengths .entry))) at budget (done (zipped (now (kinds .entry)) (now (operands .entry)))) ⌝ }
+        ≡ called (memory m (now (store .entry)) (now (lengths .entry))) at budget
+        (done (zipped (now (kinds .entry)) (now (operands .entry)))) ⌝ }
 {
     let place = at.place;
     let steps = at.steps;

@@ -47,6 +47,13 @@ pub enum Written {
     Refused(Refusal),
 }
 
+// The answer where a rule applies: its number, and the place that it names.
+fn refused(number: u32, place: usize) -> Checked
+    ensures { λ r. ⌜ r ≡ Checked.Refused (record { number = number; place = place }) ⌝ }
+{
+    Checked::Refused(Refusal { number, place })
+}
+
 // K after one more command: the highest index so far plus 1, or that of these two.
 fn named(variables: usize, index: u8, source: u8) -> usize
     ensures { λ r. ⌜ r ≡ max variables (suc (max index source)) ⌝ }
@@ -61,10 +68,7 @@ pub fn check_list(list: &[u8]) -> Checked
     ensures { λ r. ⌜ r ≡ checked (read-list (now (list .entry))) ⌝ }
 {
     if Program::NUMBERS < list.len() {
-        return Checked::Refused(Refusal {
-            number: 3,
-            place: Program::LINES + 1,
-        });
+        return refused(3, Program::LINES + 1);
     }
     let mut nest = Nest::none();
     let mut lines = 0;
@@ -82,10 +86,7 @@ pub fn check_list(list: &[u8]) -> Checked
         lines += 1;
     }
     if 3 * lines < list.len() {
-        return Checked::Refused(Refusal {
-            number: 4,
-            place: lines + 1,
-        });
+        return refused(4, lines + 1);
     }
     nest.ended(Program { lines, variables })
 }
@@ -97,7 +98,7 @@ fn is_ended(text: &[u8]) -> bool
     if text.len() == 0 {
         return true;
     }
-    text[text.len() - 1] == 10
+    text[text.len() - 1] == b'\n'
 }
 
 // A text read into a lent list of three numbers a command: rules 1 to 8, then 19.
@@ -106,34 +107,22 @@ pub fn read(text: &[u8], list: &mut [u8]) -> Checked
     ensures { λ _. ⌜ now (list .exit) ≡ lent-after (now (list .entry)) (mapped list-of (read-into (now (list .entry)) (now (text .entry)))) ⌝ }
 {
     if Program::BYTES < text.len() {
-        return Checked::Refused(Refusal {
-            number: 1,
-            place: 0,
-        });
+        return refused(1, 0);
     }
     let mut numbers = [0u8; Program::NUMBERS];
     let lines = line::read_lines(text, &mut numbers);
     if !is_ended(text) {
-        return Checked::Refused(Refusal {
-            number: 2,
-            place: lines,
-        });
+        return refused(2, lines);
     }
     if Program::LINES < lines {
-        return Checked::Refused(Refusal {
-            number: 3,
-            place: Program::LINES + 1,
-        });
+        return refused(3, Program::LINES + 1);
     }
     let count = 3 * lines;
     match check_list(&numbers[..count]) {
         Checked::Refused(r) => Checked::Refused(r),
         Checked::Accepted(program) => {
             if list.len() < count {
-                return Checked::Refused(Refusal {
-                    number: 19,
-                    place: 0,
-                });
+                return refused(19, 0);
             }
             spell::put_bytes(list, 0, &numbers[..count]);
             Checked::Accepted(program)

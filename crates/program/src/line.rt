@@ -1,4 +1,5 @@
 // A line of a program's text, read as the three numbers of its command.
+use crate::Program;
 ghost use mathlib.Core.Path.{_≡_};
 ghost use mathlib.Core.Option.{some};
 ghost use mathlib.Core.List.{_∷_, []};
@@ -41,8 +42,12 @@ fn shifted(index: u8, digit: u8) -> u8
     requires { ⌜ 48 ≤ digit ⌝ }
     ensures { λ r. ⌜ r ≡ limited (index * 10 + (digit - 48)) ⌝ }
 {
-    let all = index as usize * 10 + (digit - 48) as usize;
-    if all < 32 { all as u8 } else { 32 }
+    let all = index as usize * 10 + (digit - b'0') as usize;
+    if all <= Program::INDEX as usize {
+        all as u8
+    } else {
+        Program::INDEX + 1
+    }
 }
 
 fn digits_at(s: &[u8], at: usize) -> Digits
@@ -54,10 +59,10 @@ fn digits_at(s: &[u8], at: usize) -> Digits
     let mut index = 0;
     while end < s.len() {
         let b = s[end];
-        if b < 48 {
+        if b < b'0' {
             return Digits { end, index };
         }
-        if 57 < b {
+        if b'9' < b {
             return Digits { end, index };
         }
         index = shifted(index, b);
@@ -73,7 +78,7 @@ fn name_at(s: &[u8], at: usize) -> Named
     if s.len() <= at {
         return Named::No;
     }
-    if s[at] != 88 {
+    if s[at] != b'X' {
         return Named::No;
     }
     let d = digits_at(s, at + 1);
@@ -81,7 +86,7 @@ fn name_at(s: &[u8], at: usize) -> Named
     if end == at + 1 {
         return Named::No;
     }
-    if s[at + 1] == 48 {
+    if s[at + 1] == b'0' {
         if at + 2 < end {
             return Named::No;
         }
@@ -228,7 +233,7 @@ fn line_end(text: &[u8], at: usize) -> usize
 {
     let mut end = at;
     while end < text.len() {
-        if text[end] == 10 {
+        if text[end] == b'\n' {
             return end;
         }
         end += 1;

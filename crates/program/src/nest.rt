@@ -22,7 +22,7 @@ pub struct Opening {
 // The pairs that are open, the innermost last.
 pub struct Nest {
     pub count: usize,
-    pub openings: [Opening; 16],
+    pub openings: [Opening; Program::OPEN],
 }
 
 // A command passes, or is at fault.
@@ -61,7 +61,7 @@ impl Nest {
         };
         Nest {
             count: 0,
-            openings: [nothing; 16],
+            openings: [nothing; Program::OPEN],
         }
     }
 

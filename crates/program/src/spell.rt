@@ -31,9 +31,9 @@ fn put_name(out: &mut [u8], at: usize, index: u8) -> usize
     ensures { λ r. ⌜ Put (name-of index) at (now (out .entry)) (now (out .exit)) r ⌝ }
 {
     if index < 10 {
-        put_bytes(out, at, &[88, 48 + index])
+        put_bytes(out, at, &[b'X', b'0' + index])
     } else {
-        put_bytes(out, at, &[88, 48 + index / 10, 48 + index % 10])
+        put_bytes(out, at, &[b'X', b'0' + index / 10, b'0' + index % 10])
     }
 }
 

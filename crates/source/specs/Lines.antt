@@ -1,4 +1,4 @@
--- What the private functions of this crate say of the lines of a list, of the tables filled for a run, and of a step.
+-- What the private functions of this crate say of the lines of a list, of the tables filled for a run, of a step, of a run and of rule 9.
 use mathlib.Core.Path.{_≡_}
 use mathlib.Core.Bool.{Bool, cond}
 use mathlib.Core.Option.{Option, none, some}
@@ -26,6 +26,12 @@ program l = present (listed l)
 pub record Holds (l : List ℕ) : Type 0 where
   pub whole : list-of (program l) ≡ l
   pub accepted : Accepted (program l)
+
+-- A list that holds a program of so many lines and variables
+pub record Given (l : List ℕ) (lines K : ℕ) : Type 0 where
+  pub holds : Holds l
+  pub lines-are : lines ≡ length (program l)
+  pub variables-are : K ≡ variables (program l)
 
 -- The command of three numbers, of which the first is a kind, 1 to 7
 abbrev pub decoded : ℕ → ℕ → ℕ → Command
@@ -155,9 +161,3 @@ pub record Deep (l entries : List ℕ) (lines line : ℕ) : Type 0 where
   pub lines-are : lines ≡ length (program l)
   pub low : 0 < line
   pub high : line ≤ suc (length (program l))
-
--- A list that holds a program of so many lines and variables
-pub record Given (l : List ℕ) (lines K : ℕ) : Type 0 where
-  pub holds : Holds l
-  pub lines-are : lines ≡ length (program l)
-  pub variables-are : K ≡ variables (program l)

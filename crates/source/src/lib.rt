@@ -406,14 +406,16 @@ fn run_accepted(list: &[u8], lines: usize, variables: usize, state: State, budge
         &mut passes,
     );
     let end = stop.end;
+    let steps = state.steps + stop.taken;
+    let after = State {
+        capacity: state.capacity,
+        line: stop.line,
+        steps,
+        values,
+        passes,
+    };
     Run {
-        state: State {
-            capacity: state.capacity,
-            line: stop.line,
-            steps: state.steps + stop.taken,
-            values,
-            passes,
-        },
+        state: after,
         ended: Ended::Ran(end, stop.taken),
     }
 }

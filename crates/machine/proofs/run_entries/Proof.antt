@@ -1,3 +1,4 @@
+-- `run_entries` meets its contract: what the search for a lacking register found decides.
 use mathlib.Core.Path.{_≡_, sym, _∙_}
 use mathlib.Core.Option.{none, some}
 use Rattle.word.specs.Answers.{zipped}
@@ -7,11 +8,6 @@ use Rattle.machine.proofs.Answered.{found, found-none, table-lacks, tab
 use borrow.Author.Needs.{needs}
 use Rattle.machine.proofs.run_entries.Statement.{statement}
 use Rattle.machine.proofs.run_entries.Tie as tie
-use Rattle.machine.proofs.run_entries.Reads as reads
-use Rattle.machine.proofs.run_entries.Lts as lts
-use Rattle.machine.proofs.inside.run_numbers.Reads as run-numbers-reads
-use Rattle.machine.proofs.lacking.first_lacking.Reads as first-lacking-reads
-use Rattle.machine.proofs.turned_down.Reads as turned-down-reads
 
 -- what the search found
 lacking-at : (c : tie.After-i)
@@ -45,7 +41,11 @@ run-numbers-requires c κs =
 returns : tie.Need-returns
 returns c =
     let a = c .before .before .before .before .before .before .before .before .before .args in
-    rw (c .turned-down .ensures, table-lacks (a .m .registers) (zipped (a .kinds .now) (a .operands .now)) _ (lacking-at (c .before .before)))
+    rw (
+      c .turned-down .ensures,
+      table-lacks (a .m .registers) (zipped (a .kinds .now) (a .operands .now)) _
+          (lacking-at (c .before .before)),
+    )
 
 same-length : tie.Need-same-length
 same-length c = search needs
@@ -56,7 +56,8 @@ same-length-2 c = search needs
 returns-2 : tie.Need-returns-2
 returns-2 c =
     let a = c .before .before .before .before .before .before .before .before .before .before .before .before .before .before .args in
-    rw (table-passes (a .m .registers) (zipped (a .kinds .now) (a .operands .now)) (nothing-lacks (c .before .before .before .before .before .before .before))) (c .before .before .before .before .run-numbers .ensures)
+    rw (table-passes (a .m .registers) (zipped (a .kinds .now) (a .operands .now))
+    (nothing-lacks (c .before .before .before .before .before .before .before))) (c .before .before .before .before .run-numbers .ensures)
 
 pub run-entries-spec : {M : Type 1} → statement M
 run-entries-spec =

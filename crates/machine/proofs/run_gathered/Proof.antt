@@ -1,3 +1,4 @@
+-- `run_gathered` meets its contract: rule 10, then what gathering the table answered, and then the run of what was gathered.
 use mathlib.Core.Path.{_≡_, sym, ap, _∙_}
 use mathlib.Core.Bool.{true}
 use mathlib.Core.Option.{none}
@@ -17,40 +18,48 @@ use Rattle.machine.proofs.ReadTable.{no-memory, table-refused, table-re
 use borrow.Author.Needs.{needs}
 use Rattle.machine.proofs.run_gathered.Statement.{statement}
 use Rattle.machine.proofs.run_gathered.Tie as tie
-use Rattle.machine.proofs.run_gathered.Reads as reads
-use Rattle.machine.proofs.run_gathered.Lts as lts
-use Rattle.machine.proofs.memory.is_memory.Reads as is-memory-reads
-use Rattle.machine.proofs.run_entries.Reads as run-entries-reads
-use Rattle.machine.proofs.turned_down.Reads as turned-down-reads
 
-good : (c : tie.Else1) → let a = c .before .before .before .before .before .before .args in is-memory (memory (a .m) (a .store .now) (a .lengths .now)) ≡ true
+good : (c : tie.Else1) → let a = c .before .before .before .before .before .before .args in is-memory (memory (a .m) (a .store .now)
+    (a .lengths .now)) ≡ true
 good c = sym (c .before .is-memory .ensures) ∙ not-false _ (c .if1 .left)
 
 -- what was gathered
-module _ (c : tie.After-answer) (t : List Entry) (e : c .before .before .before .before .before .before .before .before .args .g ≡ gathered t) where
+module _ (c : tie.After-answer) (t : List Entry) (e : c .before .before .before .before .before .before .before .before .args .g
+    ≡ gathered t) where
   read-done : (table-fault t ≡ none) × (c .answer .given .0 .0 ≡ length t)
-  read-done = got-done t (c .before .before .before .before .before .before .before .before .args .g) e (c .answer .given .0 .0) (c .answer .given .1)
+  read-done = got-done t (c .before .before .before .before .before .before .before .before .args .g) e (c .answer .given .0 .0)
+      (c .answer .given .1)
 
-  read-kinds : take (c .answer .given .0 .0) (c .before .before .before .before .before .before .before .before .args .g .kinds) ≡ kinds-of t
-  read-kinds = got-kinds t (c .before .before .before .before .before .before .before .before .args .g) e (read-done .0) (c .answer .given .0 .0) (read-done .1)
+  read-kinds : take (c .answer .given .0 .0) (c .before .before .before .before .before .before .before .before .args .g .kinds)
+      ≡ kinds-of t
+  read-kinds = got-kinds t (c .before .before .before .before .before .before .before .before .args .g) e (read-done .0)
+      (c .answer .given .0 .0) (read-done .1)
 
-  read-operands : take (c .answer .given .0 .0) (c .before .before .before .before .before .before .before .before .args .g .operands) ≡ operands-of t
-  read-operands = got-operands t (c .before .before .before .before .before .before .before .before .args .g) e (read-done .0) (c .answer .given .0 .0) (read-done .1)
+  read-operands : take (c .answer .given .0 .0) (c .before .before .before .before .before .before .before .before .args .g .operands)
+      ≡ operands-of t
+  read-operands = got-operands t (c .before .before .before .before .before .before .before .before .args .g) e (read-done .0)
+      (c .answer .given .0 .0) (read-done .1)
 
-  read-table : zipped (take (c .answer .given .0 .0) (c .before .before .before .before .before .before .before .before .args .g .kinds)) (take (c .answer .given .0 .0) (c .before .before .before .before .before .before .before .before .args .g .operands)) ≡ t
+  read-table : zipped (take (c .answer .given .0 .0)
+      (c .before .before .before .before .before .before .before .before .args .g .kinds)) (take (c .answer .given .0 .0)
+      (c .before .before .before .before .before .before .before .before .args .g .operands)) ≡ t
   read-table = rw (read-kinds, read-operands) (zipped-of t)
 
-kinds-fit : (c : tie.After-answer) → c .answer .given .0 .0 ≤ length (c .before .before .before .before .before .before .before .before .args .g .kinds)
+kinds-fit : (c : tie.After-answer) → c .answer .given .0 .0 ≤ length
+    (c .before .before .before .before .before .before .before .before .args .g .kinds)
 kinds-fit c =
     let p = c .before .before .before .before .before .before .before .before .pre in
     let d = read-done c (p .0) (p .1) in
-    kinds-room (p .0) (c .before .before .before .before .before .before .before .before .args .g) (p .1) (d .0) (c .answer .given .0 .0) (d .1)
+    kinds-room (p .0) (c .before .before .before .before .before .before .before .before .args .g) (p .1) (d .0)
+    (c .answer .given .0 .0) (d .1)
 
-operands-fit : (c : tie.After-answer) → c .answer .given .0 .0 ≤ length (c .before .before .before .before .before .before .before .before .args .g .operands)
+operands-fit : (c : tie.After-answer) → c .answer .given .0 .0 ≤ length
+    (c .before .before .before .before .before .before .before .before .args .g .operands)
 operands-fit c =
     let p = c .before .before .before .before .before .before .before .before .pre in
     let d = read-done c (p .0) (p .1) in
-    operands-room (p .0) (c .before .before .before .before .before .before .before .before .args .g) (p .1) (d .0) (c .answer .given .0 .0) (d .1)
+    operands-room (p .0) (c .before .before .before .before .before .before .before .before .args .g) (p .1) (d .0)
+    (c .answer .given .0 .0) (d .1)
 
 is-memory-requires : tie.Need-is-memory-requires
 is-memory-requires c κs = search needs
@@ -69,7 +78,11 @@ returns c =
     λ t e.
     let a = c .before .before .before .before .before .before .before .args in
     let m = memory (a .m) (a .store .now) (a .lengths .now) in
-    rw (c .turned-down .ensures, no-memory m (a .at) (a .budget) t (sym (c .before .before .is-memory .ensures) ∙ not-true _ (c .before .if1 .taken)))
+    rw (
+      c .turned-down .ensures,
+      no-memory m (a .at) (a .budget) t (sym (c .before .before .is-memory .ensures) ∙ not-true _
+          (c .before .if1 .taken)),
+    )
 
 enum-known-answer : tie.Need-enum-known-answer
 enum-known-answer c = search needs
@@ -88,7 +101,8 @@ slice-aggregate-run-entries-2 c = sym (length-take-le _ _ (operands-fit (c .befo
 
 run-entries-requires : tie.Need-run-entries-requires
 run-entries-requires c κs =
-    let p = c .before .before .before .before .before .before .before .before .before .before .before .before .before .before .before .pre in
+    let p = c .before .before .before .before .before .before .before .before .before .before .before .before .before .before
+    .before .pre in
     let read = c .before .before .before .before .before .before .before in
     let ks = read-kinds read (p .0) (p .1) in
     let ns = read-operands read (p .0) (p .1) in
@@ -110,12 +124,15 @@ same-length-4 c = search needs
 returns-2 : tie.Need-returns-2
 returns-2 c =
     λ t e.
-    let a = c .before .before .before .before .before .before .before .before .before .before .before .before .before .before .before .before .before .before .before .before .args in
+    let a = c .before .before .before .before .before .before .before .before .before .before .before .before .before .before .before
+    .before .before .before .before .before .args in
     let m = memory (a .m) (a .store .now) (a .lengths .now) in
     let read = c .before .before .before .before .before .before .before .before .before .before .before .before in
     c .before .before .before .before .run-entries .ensures
     ∙ ap (λ (u : List Entry). called m (a .at) (a .budget) (table-for (a .m .registers) u)) (read-table read t e)
-    ∙ sym (table-read m (a .at) (a .budget) t (good (c .before .before .before .before .before .before .before .before .before .before .before .before .before .before)) (read-done read t e .0))
+    ∙ sym (table-read m (a .at) (a .budget) t
+    (good (c .before .before .before .before .before .before .before .before .before .before .before .before .before .before))
+    (read-done read t e .0))
 
 same-length-5 : tie.Need-same-length-5
 same-length-5 c = search needs
@@ -128,7 +145,8 @@ returns-3 c =
     λ t e.
     let a = c .before .before .before .before .before .before .before .before .before .args in
     let m = memory (a .m) (a .store .now) (a .lengths .now) in
-    sym (table-refused m (a .at) (a .budget) t (good (c .before .before .before)) _ (got-refused t (a .g) e _ (c .before .answer2 .given .1)))
+    sym (table-refused m (a .at) (a .budget) t (good (c .before .before .before)) _
+    (got-refused t (a .g) e _ (c .before .answer2 .given .1)))
 
 pub run-gathered-spec : {M : Type 1} → statement M
 run-gathered-spec =

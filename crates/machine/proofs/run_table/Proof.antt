@@ -1,4 +1,5 @@
--- `run_table` meets its contract: a walk of its MIR over two calls. The table is lent to `gather`, and the two slices are handed to `run_gathered` for
+-- `run_table` meets its contract: a walk of its MIR over two calls. The table is lent to `gather`, and the two slices are handed to
+-- `run_gathered` for
 -- good.
 use mathlib.Core.Path.{_≡_, refl, sym, subst}
 use mathlib.Core.List.{List, [], _∷_}
@@ -177,7 +178,8 @@ module _ {M : Type 1} (𝓤 : URA M) (H : Heap 𝓤) (A : Atoms 𝓤) (W : Given
 
   exits : (g : Gathered) (r : Run) (v : Val) (zs : Lasts runs.ended κs₂ (args₂ g)) → length (zs .1 .0) ≡ length (x₀ .now)
       → length (zs .1 .1 .0) ≡ length (x₁ .now)
-      → handed r (zs .1 .0) (zs .1 .1 .0) ≡ table-called (memory m (x₀ .now) (x₁ .now)) p budget t → ent 𝓤 (⋆ 𝓤 H A (Kept g r v zs)) (Post v)
+      → handed r (zs .1 .0) (zs .1 .1 .0) ≡ table-called (memory m (x₀ .now) (x₁ .now)) p budget t → ent 𝓤 (⋆ 𝓤 H A (Kept g r v zs))
+      (Post v)
   exits g r v zs e₀ e₁ is =
       qed W (Kept g r v zs) ∵
       suffices ! _ (ends-at 𝓤 H A f.ended stayed (f.clauses 𝓤 H A mem run) W ((κs₃, qs₃, tt, x, at), tt) v r
@@ -185,7 +187,8 @@ module _ {M : Type 1} (𝓤 : URA M) (H : Heap 𝓤) (A : Atoms 𝓤) (W : Given
       split ! $ move ! (1 ∷ []) $ split ! $
       -- [κ₁; true; κ₀; κ₂ and true; the last lists; the result]
       move ! (0 ∷ 3 ∷ []) $ join ! $ move ! (2 ∷ 0 ∷ []) $ join ! $ frame ! $ drop ! $
-      nothing ! $ nothing ! $ fjoin ! $ nothing ! $ fjoin ! $ nothing ! $ fjoin ! $ move ! (2 ∷ 0 ∷ []) $ fjoin ! $ move ! (1 ∷ 0 ∷ []) $ fjoin ! $
+      nothing ! $ nothing ! $ fjoin ! $ nothing ! $ fjoin ! $ nothing ! $ fjoin ! $ move ! (2 ∷ 0 ∷ []) $ fjoin ! $ move !
+      (1 ∷ 0 ∷ []) $ fjoin ! $
       nothing ! $ fjoin ! $ frame ! $ done !
 
   module _ (C : Calls 𝓤 H) (Λ : Loops 𝓤 H) (fm : FmC 𝓤 H (W .laws) C) (known₁ : Triple 𝓤 (C #word·gather) (Gather 𝓤 H A mem run))
@@ -194,46 +197,68 @@ module _ {M : Type 1} (𝓤 : URA M) (H : Heap 𝓤) (A : Atoms 𝓤) (W : Given
         (WpFn 𝓤 H C Λ code.function (vm ∷ v₀ ∷ v₁ ∷ vp ∷ v₂ ∷ vint w32 budget ∷ []) Post)
     walk =
         qed W ((‵ (flft κ₀ q₀) ⊛ ‵ (flft κ₁ q₁) ⊛ ‵ (flft κ₂ q₂) ⊛ ‵ ftrue)
-        ∷ ‵ (owns (TM.the-row ∷ MutSlice (named 0) κ₀ u8 ∷ MutSlice (named 1) κ₁ u16 ∷ TP.the-row ∷ ShrSlice (named 2) κ₂ TI.the-row ∷ u32 ∷ []) x at)
+        ∷ ‵ (owns (TM.the-row ∷ MutSlice (named 0) κ₀ u8 ∷ MutSlice (named 1) κ₁ u16 ∷ TP.the-row ∷ ShrSlice (named 2) κ₂ TI.the-row
+        ∷ u32 ∷ []) x at)
         ∷ []) ∵
-        split ! $ move ! (1 ∷ []) $ split ! $ move ! (1 ∷ []) $ split ! $ move ! (4 ∷ []) $ fsplit ! $ move ! (1 ∷ []) $ fsplit ! $ move ! (1 ∷ []) $ fsplit ! $ move ! (1 ∷ []) $ fsplit ! $ move ! (1 ∷ []) $ fsplit ! $ move ! (1 ∷ []) $ fsplit ! $
-        peeks ! u32 (Is u32) (shows 𝓤 H A u32) budget (vint w32 budget ∷ []) (λ gb. move ! (3 ∷ []) $ peeks ! TP.the-row (Is TP.the-row) (shows 𝓤 H A TP.the-row) p (vp ∷ []) (λ gp.
+        split ! $ move ! (1 ∷ []) $ split ! $ move ! (1 ∷ []) $ split ! $ move ! (4 ∷ []) $ fsplit ! $ move ! (1 ∷ []) $ fsplit ! $
+        move ! (1 ∷ []) $ fsplit ! $ move ! (1 ∷ []) $ fsplit ! $ move ! (1 ∷ []) $ fsplit ! $ move ! (1 ∷ []) $ fsplit ! $
+        peeks ! u32 (Is u32) (shows 𝓤 H A u32) budget (vint w32 budget ∷ []) (λ gb. move ! (3 ∷ []) $ peeks ! TP.the-row (Is TP.the-row)
+        (shows 𝓤 H A TP.the-row) p (vp ∷ []) (λ gp.
         move ! (6 ∷ []) $ peeks ! TM.the-row (Is TM.the-row) (shows 𝓤 H A TM.the-row) m (vm ∷ []) (λ gm.
         enter ! C Λ code.function (vm ∷ v₀ ∷ v₁ ∷ vp ∷ v₂ ∷ vint w32 budget ∷ []) _ $
-        alloc1 ! (λ l₀. alloc1 ! (λ l₁. alloc1 ! (λ l₂. alloc1 ! (λ l₃. alloc1 ! (λ l₄. alloc1 ! (λ l₅. alloc1 ! (λ l₆. alloc1 ! (λ l₇. alloc1 ! (λ l₈. alloc1 ! (λ l₉. alloc1 ! (λ l₁₀. alloc1 ! (λ l₁₁. alloc0 ! $ params1 ! $
+        alloc1 ! (λ l₀. alloc1 !
+        (λ l₁. alloc1 ! (λ l₂. alloc1 !
+        (λ l₃. alloc1 ! (λ l₄. alloc1 !
+        (λ l₅. alloc1 ! (λ l₆. alloc1 ! (λ l₇. alloc1 ! (λ l₈. alloc1 ! (λ l₉. alloc1 ! (λ l₁₀. alloc1 ! (λ l₁₁. alloc0 ! $ params1 ! $
         pass1 ! (init ! 20 refl (LL.lawful TM.the-type TM′.the-laws 𝓤 H A W .typed m _ gm .0)) $
-        pass1 ! (init ! 18 refl (tt, (tt, (record { fits = room₀ .0 }, tt)))) $ pass1 ! (init ! 16 refl (tt, (tt, (record { fits = room₁ .0 }, tt)))) $
+        pass1 ! (init ! 18 refl (tt, (tt, (record { fits = room₀ .0 }, tt)))) $ pass1 !
+        (init ! 16 refl (tt, (tt, (record { fits = room₁ .0 }, tt)))) $
         pass1 ! (init ! 14 refl (LL.lawful TP.the-type TP′.the-laws 𝓤 H A W .typed p _ gp .0)) $
-        pass1 ! (init ! 12 refl (tt, (tt, (record { fits = room₂ .0 }, tt)))) $ pass1 ! (init ! 10 refl (tt, record { fits = gb .1 })) $ pass0 ! $
-        assigns ! (addr ! (from ! (fld ! refl (hop ! (look-in ! 18 (sub ! 0 refl (whole !))) (stop !))))) (from ! (stop !)) (init ! 8 refl (tt, tt)) $
+        pass1 ! (init ! 12 refl (tt, (tt, (record { fits = room₂ .0 }, tt)))) $ pass1 ! (init ! 10 refl (tt, record { fits = gb .1 })) $
+        pass0 ! $
+        assigns ! (addr ! (from ! (fld ! refl (hop ! (look-in ! 18 (sub ! 0 refl (whole !))) (stop !))))) (from ! (stop !))
+        (init ! 8 refl (tt, tt)) $
         assigns ! (agg ! (and-then ! (load ! (from ! (stop !)) (look ! 8 refl))
         (and-then ! (load ! (from ! (fld ! refl (stop !))) (look-in ! 18 (sub ! 1 refl (whole !)))) (no-more !)))) (from ! (stop !))
         (init ! 6 refl (tt, (tt, (record { fits = room₀ .0 }, tt)))) $
-        assigns ! (addr ! (from ! (fld ! refl (hop ! (look-in ! 16 (sub ! 0 refl (whole !))) (stop !))))) (from ! (stop !)) (init ! 4 refl (tt, tt)) $
+        assigns ! (addr ! (from ! (fld ! refl (hop ! (look-in ! 16 (sub ! 0 refl (whole !))) (stop !))))) (from ! (stop !))
+        (init ! 4 refl (tt, tt)) $
         assigns ! (agg ! (and-then ! (load ! (from ! (stop !)) (look ! 4 refl))
         (and-then ! (load ! (from ! (fld ! refl (stop !))) (look-in ! 16 (sub ! 1 refl (whole !)))) (no-more !)))) (from ! (stop !))
         (init ! 2 refl (tt, (tt, (record { fits = room₁ .0 }, tt)))) $
-        nothing ! $ move ! (29 ∷ 0 ∷ []) $ fjoin ! $ nothing ! $ move ! (32 ∷ 0 ∷ []) $ join ! $ use2 W (raw (Gather 𝓤 H A mem run .pre to₁)) asked₁ $
+        nothing ! $ move ! (29 ∷ 0 ∷ []) $ fjoin ! $ nothing ! $ move ! (32 ∷ 0 ∷ []) $ join ! $ use2 W
+        (raw (Gather 𝓤 H A mem run .pre to₁)) asked₁ $
         calls-at ! fm (Gather 𝓤 H A mem run) known₁ to₁ (and-then ! (load ! (from ! (stop !)) (look ! 13 refl)) (no-more !)) (λ u.
         use1 W (later (some (λ (g : Gathered). ((‵ (flft κ₂ q₂) ⊛ ‵ ftrue) ⊛ ‵ (TG.the-row .own g (u ∷ [])))
-        ⊛ raw (ensured 𝓤 H A gather.ended (gather.clauses 𝓤 H A mem run) (κ₂, tt) (x₂, tt) tt g)))) (id⊢ 𝓤 _) $ await ! tt $ pick ! (λ g. split ! $ move ! (1 ∷ []) $ use1 W (raw (fact 𝓤 (g ≡ gathered t))) (said₁ g) $ heard ! (g ≡ gathered t) (λ e.
+        ⊛ raw (ensured 𝓤 H A gather.ended (gather.clauses 𝓤 H A mem run) (κ₂, tt) (x₂, tt) tt g)))) (id⊢ 𝓤 _) $ await ! tt $ pick !
+        (λ g. split ! $ move ! (1 ∷ []) $ use1 W (raw (fact 𝓤 (g ≡ gathered t))) (said₁ g) $ heard ! (g ≡ gathered t) (λ e.
         split ! $ move ! (1 ∷ []) $ peeks ! TG.the-row (Is TG.the-row) (shows 𝓤 H A TG.the-row) g (u ∷ []) (λ isg.
         land ! (from ! (stop !)) (init ! 2 refl (LL.lawful TG.the-type TG′.the-laws 𝓤 H A W .typed g _ isg .0)) $
-        nothing ! $ move ! (29 ∷ 0 ∷ []) $ fjoin ! $ move ! (1 ∷ 0 ∷ []) $ fjoin ! $ move ! (27 ∷ 0 ∷ []) $ fjoin ! $ move ! (28 ∷ 0 ∷ []) $ fjoin ! $ move ! (28 ∷ 0 ∷ []) $ fjoin ! $ move ! (26 ∷ 0 ∷ []) $ fjoin ! $
-        nothing ! $ move ! (29 ∷ 0 ∷ []) $ join ! $ move ! (29 ∷ 0 ∷ []) $ join ! $ use2 W (raw (RunC 𝓤 H A mem run .pre (to₂ g u))) (asked₂ g u e) $
+        nothing ! $ move ! (29 ∷ 0 ∷ []) $ fjoin ! $ move ! (1 ∷ 0 ∷ []) $ fjoin ! $ move ! (27 ∷ 0 ∷ []) $ fjoin ! $ move !
+        (28 ∷ 0 ∷ []) $ fjoin ! $ move ! (28 ∷ 0 ∷ []) $ fjoin ! $ move ! (26 ∷ 0 ∷ []) $ fjoin ! $
+        nothing ! $ move ! (29 ∷ 0 ∷ []) $ join ! $ move ! (29 ∷ 0 ∷ []) $ join ! $ use2 W (raw (RunC 𝓤 H A mem run .pre (to₂ g u)))
+        (asked₂ g u e) $
         calls-at ! fm (RunC 𝓤 H A mem run) known₂ (to₂ g u)
         (and-then ! (load ! (from ! (stop !)) (look ! 22 refl)) (and-then ! (load ! (from ! (stop !)) (look ! 8 refl))
         (and-then ! (load ! (from ! (stop !)) (look ! 4 refl)) (and-then ! (load ! (from ! (stop !)) (look ! 16 refl))
-        (and-then ! (load ! (from ! (stop !)) (look ! 2 refl)) (and-then ! (load ! (from ! (stop !)) (look ! 12 refl)) (no-more !))))))) (λ v.
+        (and-then ! (load ! (from ! (stop !)) (look ! 2 refl)) (and-then ! (load ! (from ! (stop !)) (look ! 12 refl)) (no-more !)))))))
+        (λ v.
         use1 W (later (some (λ (r : Run). (tokens₂ ⊛ ‵ (TR.the-row .own r (v ∷ [])))
-        ⊛ raw (ensured 𝓤 H A runs.ended (runs.clauses 𝓤 H A mem run) κs₂ (args₂ g) tt r)))) (id⊢ 𝓤 _) $ await ! tt $ pick ! (λ r. split ! $ move ! (1 ∷ []) $
-        use1 W (some (λ (zs : Lasts runs.ended κs₂ (args₂ g)). ‵ (lasts runs.ended κs₂ (args₂ g) zs) ⊛ raw (fact 𝓤 (Ran g r zs)))) (id⊢ 𝓤 _) $ pick ! (λ zs. split ! $ move ! (1 ∷ []) $ heard ! (Ran g r zs) (λ done-is.
-        fsplit ! $ drop ! $ fsplit ! $ fsplit ! $ move ! (1 ∷ []) $ feqL ! (λ e₀. move ! (1 ∷ []) $ fsplit ! $ fsplit ! $ move ! (1 ∷ []) $ feqL ! (λ e₁.
+        ⊛ raw (ensured 𝓤 H A runs.ended (runs.clauses 𝓤 H A mem run) κs₂ (args₂ g) tt r)))) (id⊢ 𝓤 _) $ await ! tt $ pick !
+        (λ r. split ! $ move ! (1 ∷ []) $
+        use1 W (some (λ (zs : Lasts runs.ended κs₂ (args₂ g)). ‵ (lasts runs.ended κs₂ (args₂ g) zs) ⊛ raw (fact 𝓤 (Ran g r zs))))
+        (id⊢ 𝓤 _) $ pick ! (λ zs. split ! $ move ! (1 ∷ []) $ heard ! (Ran g r zs) (λ done-is.
+        fsplit ! $ drop ! $ fsplit ! $ fsplit ! $ move ! (1 ∷ []) $ feqL ! (λ e₀. move ! (1 ∷ []) $ fsplit ! $ fsplit ! $ move !
+        (1 ∷ []) $ feqL ! (λ e₁.
         move ! (3 ∷ []) $ split ! $ move ! (1 ∷ []) $ peeks ! TR.the-row (Is TR.the-row) (shows 𝓤 H A TR.the-row) r (v ∷ []) (λ isr.
         land ! (from ! (stop !)) (init ! 28 refl (LL.lawful TR.the-type TR′.the-laws 𝓤 H A W .typed r _ isr .0)) $
         returns ! (look ! 28 refl) $
-        forget ! 6 refl $ forget ! 8 refl $ forget ! 10 refl $ forget ! 12 refl $ forget ! 14 refl $ forget ! 16 refl $ forget ! 18 refl $ forget ! 20 refl $ forget ! 22 refl $ forget ! 24 refl $ forget ! 26 refl $ forget ! 28 refl $
-        move ! (28 ∷ 29 ∷ []) $ free1 ! $ move ! (26 ∷ 27 ∷ []) $ free1 ! $ move ! (24 ∷ 25 ∷ []) $ free1 ! $ move ! (22 ∷ 23 ∷ []) $ free1 ! $ move ! (20 ∷ 21 ∷ []) $ free1 ! $ move ! (18 ∷ 19 ∷ []) $ free1 ! $ move ! (16 ∷ 17 ∷ []) $ free1 ! $ move ! (14 ∷ 15 ∷ []) $ free1 ! $ move ! (12 ∷ 13 ∷ []) $ free1 ! $ move ! (10 ∷ 11 ∷ []) $ free1 ! $ move ! (8 ∷ 9 ∷ []) $ free1 ! $ move ! (6 ∷ 7 ∷ []) $ free1 ! $ free0 ! $
+        forget ! 6 refl $ forget ! 8 refl $ forget ! 10 refl $ forget ! 12 refl $ forget ! 14 refl $ forget ! 16 refl $
+        forget ! 18 refl $ forget ! 20 refl $ forget ! 22 refl $ forget ! 24 refl $ forget ! 26 refl $ forget ! 28 refl $
+        move ! (28 ∷ 29 ∷ []) $ free1 ! $ move ! (26 ∷ 27 ∷ []) $ free1 ! $ move ! (24 ∷ 25 ∷ []) $ free1 ! $ move ! (22 ∷ 23 ∷ []) $
+        free1 ! $ move ! (20 ∷ 21 ∷ []) $ free1 ! $ move ! (18 ∷ 19 ∷ []) $ free1 ! $ move ! (16 ∷ 17 ∷ []) $ free1 ! $ move !
+        (14 ∷ 15 ∷ []) $ free1 ! $ move ! (12 ∷ 13 ∷ []) $ free1 ! $ move ! (10 ∷ 11 ∷ []) $ free1 ! $ move ! (8 ∷ 9 ∷ []) $ free1 ! $
+        move ! (6 ∷ 7 ∷ []) $ free1 ! $ free0 ! $
         keep ! (1 ∷ 5 ∷ 4 ∷ 2 ∷ 0 ∷ []) $ by ! (exits g r v zs e₀ e₁ (done-is t e))))))))))))))))))))))))))))
 
 module _ {M : Type 1} (𝓤 : URA M) (H : Heap 𝓤) (A : Atoms 𝓤) (W : Given 𝓤 H A) (mem : Memory → SProp 𝓤) (run : Routine → Fun 𝓤) where
@@ -242,7 +267,10 @@ module _ {M : Type 1} (𝓤 : URA M) (H : Heap 𝓤) (A : Atoms 𝓤) (W : Given
       → Walks 𝓤 H A f.ended stayed (WpFn 𝓤 H C Λ code.function) (f.clauses 𝓤 H A mem run)
   run-table-walks C Λ fm known₁ known₂ =
       walked 𝓤 H A f.ended stayed (f.clauses 𝓤 H A mem run) (WpFn 𝓤 H C Λ code.function)
-      (λ κs. (LL.vals TM.the-type TM′.the-laws, (slice-vals, (slice-vals, (LL.vals TP.the-type TP′.the-laws, (slice-vals, (uint-vals w32, tt)))))))
+      (λ κs. (
+        LL.vals TM.the-type TM′.the-laws,
+        (slice-vals, (slice-vals, (LL.vals TP.the-type TP′.the-laws, (slice-vals, (uint-vals w32, tt))))),
+      ))
       (λ κs. (
         LL.tells TM.the-type TM′.the-laws,
         (
@@ -261,11 +289,13 @@ module _ {M : Type 1} (𝓤 : URA M) (H : Heap 𝓤) (A : Atoms 𝓤) (W : Given
   -- sizes and a position are at exit as they were passed
   silent : Silent 𝓤 H A W 3 (plain (λ _. TM.the-row)) yes
   silent κs x =
-      subst (λ (e : Exit (TM.the-row .Denot)). (w : Last e x) → left e x w ≡ ftrue) (sym (LL.still TM.the-type TM′.the-copy yes)) (λ w. refl)
+      subst (λ (e : Exit (TM.the-row .Denot)). (w : Last e x) → left e x w ≡ ftrue) (sym (LL.still TM.the-type TM′.the-copy yes))
+      (λ w. refl)
 
   silent′ : Silent 𝓤 H A W 3 (plain (λ _. TP.the-row)) yes
   silent′ κs x =
-      subst (λ (e : Exit (TP.the-row .Denot)). (w : Last e x) → left e x w ≡ ftrue) (sym (LL.still TP.the-type TP′.the-copy yes)) (λ w. refl)
+      subst (λ (e : Exit (TP.the-row .Denot)). (w : Last e x) → left e x w ≡ ftrue) (sym (LL.still TP.the-type TP′.the-copy yes))
+      (λ w. refl)
 
   goes : AllGo 𝓤 H A W 3 (f.signature .params) (f.ended .kept) stayed
   goes = (
@@ -285,7 +315,8 @@ module _ {M : Type 1} (𝓤 : URA M) (H : Heap 𝓤) (A : Atoms 𝓤) (W : Given
     ),
   )
 
-run-table-meets : {M : Type 1} (𝓤 : URA M) (H : Heap 𝓤) (A : Atoms 𝓤) → Given 𝓤 H A → (mem : Memory → SProp 𝓤) (run : Routine → Fun 𝓤) (𝓣 : Tables 𝓤 H)
+run-table-meets : {M : Type 1} (𝓤 : URA M) (H : Heap 𝓤) (A : Atoms 𝓤) → Given 𝓤 H A → (mem : Memory → SProp 𝓤) (run : Routine → Fun 𝓤)
+    (𝓣 : Tables 𝓤 H)
     → Triple 𝓤 (𝓣 .C #word·gather) (Gather 𝓤 H A mem run) → Triple 𝓤 (𝓣 .C #machine·run-gathered) (RunC 𝓤 H A mem run)
     → Meets 𝓤 H A f.signature (WpFn 𝓤 H (𝓣 .C) (𝓣 .Λ) code.function) (f.spec 𝓤 H A mem run)
 run-table-meets 𝓤 H A W mem run 𝓣 known₁ known₂ =
@@ -298,6 +329,7 @@ run-table-spec 𝓤 H 𝓜 𝓖 𝓡 =
     entered 𝓤 H (tripleOf 𝓤 H (𝓖 .A) f.signature (f.spec 𝓤 H (𝓖 .A) (𝓜 .mem) (𝓡 .run)))
     (tables 𝓤 H 𝓜 𝓡 code.env .C) (tables 𝓤 H 𝓜 𝓡 code.env .Λ) #machine·run-table code.function (code.unfolded 𝓤 H 𝓜 𝓡)
     (run-table-meets 𝓤 H (𝓖 .A) (givenOf 𝓤 H 𝓜 𝓖) (𝓜 .mem) (𝓡 .run) (tablesOf 𝓤 H 𝓜 (tables 𝓤 H 𝓜 𝓡 code.env))
-    (cited 𝓤 H (Gather 𝓤 H (𝓖 .A) (𝓜 .mem) (𝓡 .run)) 𝓜 𝓡 code.env #word·gather gather-def.routine code.calls-word·gather (gather-thm.met 𝓤 H 𝓜 𝓖 𝓡))
+    (cited 𝓤 H (Gather 𝓤 H (𝓖 .A) (𝓜 .mem) (𝓡 .run)) 𝓜 𝓡 code.env #word·gather gather-def.routine code.calls-word·gather
+    (gather-thm.met 𝓤 H 𝓜 𝓖 𝓡))
     (cited 𝓤 H (RunC 𝓤 H (𝓖 .A) (𝓜 .mem) (𝓡 .run)) 𝓜 𝓡 code.env #machine·run-gathered run-def.routine code.calls-machine·run-gathered
     (run-thm.met 𝓤 H 𝓜 𝓖 𝓡)))

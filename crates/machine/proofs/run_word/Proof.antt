@@ -1,3 +1,4 @@
+-- `run_word` meets its contract: what the search for a lacking register found decides.
 use mathlib.Core.Path.{_≡_, sym, _∙_}
 use mathlib.Core.Option.{none, some}
 use native.Mathlib.Omega.{arith}
@@ -10,12 +11,6 @@ use Rattle.machine.proofs.Rule15.{zipped-length}
 use borrow.Author.Needs.{needs}
 use Rattle.machine.proofs.run_word.Statement.{statement}
 use Rattle.machine.proofs.run_word.Tie as tie
-use Rattle.machine.proofs.run_word.Reads as reads
-use Rattle.machine.proofs.run_word.Lts as lts
-use Rattle.machine.proofs.inside.run_numbers.Reads as run-numbers-reads
-use Rattle.machine.proofs.lacking.first_lacking.Reads as first-lacking-reads
-use Rattle.machine.proofs.lacking.start_of.Reads as start-of-reads
-use Rattle.machine.proofs.turned_down.Reads as turned-down-reads
 
 -- what the search found
 lacking-at : (c : tie.After-i)
@@ -57,7 +52,12 @@ run-numbers-requires c κs =
 returns : tie.Need-returns
 returns c =
     let a = c .before .before .before .before .before .before .before .before .before .before .args in
-    rw (c .turned-down .ensures, c .before .start-of .ensures, word-lacks (a .m .registers) (zipped (a .kinds .now) (a .operands .now)) _ (lacking-at (c .before .before .before)))
+    rw (
+      c .turned-down .ensures,
+      c .before .start-of .ensures,
+      word-lacks (a .m .registers)
+          (zipped (a .kinds .now) (a .operands .now)) _ (lacking-at (c .before .before .before)),
+    )
 
 same-length : tie.Need-same-length
 same-length c = search needs
@@ -68,7 +68,8 @@ same-length-2 c = search needs
 returns-2 : tie.Need-returns-2
 returns-2 c =
     let a = c .before .before .before .before .before .before .before .before .before .before .before .before .before .before .args in
-    rw (word-passes (a .m .registers) (zipped (a .kinds .now) (a .operands .now)) (nothing-lacks (c .before .before .before .before .before .before .before))) (c .before .before .before .before .run-numbers .ensures)
+    rw (word-passes (a .m .registers) (zipped (a .kinds .now) (a .operands .now))
+    (nothing-lacks (c .before .before .before .before .before .before .before))) (c .before .before .before .before .run-numbers .ensures)
 
 pub run-word-spec : {M : Type 1} → statement M
 run-word-spec =

@@ -1,4 +1,5 @@
--- `step` meets its contract: a walk of its MIR. The two slices are handed to `run` for good, the record is read through its open borrow and passed
+-- `step` meets its contract: a walk of its MIR. The two slices are handed to `run` for good, the record is read through its open
+-- borrow and passed
 -- by value, and what `run` returns is taken apart by two calls: the position is stored in the record, and how the run ended is the result.
 use mathlib.Core.Path.{_≡_, refl, sym, subst}
 use mathlib.Core.List.{List, [], _∷_}
@@ -21,7 +22,8 @@ use contract.Running.{givenOf, tables, tablesOf}
 use types.Kit.{Given, Item, ‵, raw, some, later, _⊛_, ⋆, _$_, _∵_, !, qed, by, move, keep, drop, use1, use2, split, join, pick}
 use types.Kit.{fsplit, fsplit3, fjoin, fjoin3, feqI, feqL, suffices, frame, await, done}
 use types.Part.{whole, sub, look-in, agg}
-use types.Run.{look, look-raw, store, store-raw, init, forget, stop, hop, fld, from, load, lit, of-opd, and-then, no-more, addr, land, assigns}
+use types.Run.{look, look-raw, store, store-raw, init, forget, stop, hop, fld}
+use types.Run.{from, load, lit, of-opd, and-then, no-more, addr, land, assigns}
 use types.Run.{returns, enter, alloc1, alloc0, params1, pass1, pass0, free1, free0}
 use types.SemTy.{Body}
 use sound.WpLaws.{FmC, fmOf, WpFn-mono}
@@ -110,7 +112,8 @@ module _ {M : Type 1} (𝓤 : URA M) (H : Heap 𝓤) (A : Atoms 𝓤) (mem : Mem
   said-ended r e = exE 𝓤 _ (λ ws. snd∗ 𝓤 (sem 𝓤 H A (lasts ended-of.ended tt (r, tt) ws)) (fact 𝓤 (e ≡ r .ended)))
 
 module _ {M : Type 1} (𝓤 : URA M) (H : Heap 𝓤) (A : Atoms 𝓤) (W : Given 𝓤 H A) (mem : Memory → SProp 𝓤) (run : Routine → Fun 𝓤)
-    (κ₀ κ₁ κ₂ κ₃ : Lft) (q₀ q₁ q₂ q₃ : Share) (m : Machine) (x₀ x₁ : RefT (List ℕ)) (b₂ o₂ : ℕ) (γ₂ : GName) (h : Position) (x₃ : RefT (List ℕ))
+    (κ₀ κ₁ κ₂ κ₃ : Lft) (q₀ q₁ q₂ q₃ : Share) (m : Machine) (x₀ x₁ : RefT (List ℕ)) (b₂ o₂ : ℕ) (γ₂ : GName) (h : Position)
+    (x₃ : RefT (List ℕ))
     (room₀ : Room u8 (length (x₀ .now))) (room₁ : Room u16 (length (x₁ .now))) (room₃ : Room u8 (length (x₃ .now))) where
   abbrev vm : Val
   vm = LL.tuple-val TM.the-type TM′.the-laws (TM.the-type .to m)
@@ -160,7 +163,8 @@ module _ {M : Type 1} (𝓤 : URA M) (H : Heap 𝓤) (A : Atoms 𝓤) (W : Given
 
   asked-run : ent 𝓤 (onEntry 𝓤 H A runs.signature κs₃ (q₀, (q₁, (q₃, tt))) args₁ passed₁) (RunC 𝓤 H A mem run .pre to-run)
   asked-run =
-      qed W (tokens₃ ∷ ‵ (owns (TM.the-row ∷ MutSlice (named 0) κ₀ u8 ∷ MutSlice (named 1) κ₁ u16 ∷ TP.the-row ∷ ShrSlice (named 2) κ₃ u8 ∷ u32 ∷ [])
+      qed W (tokens₃ ∷ ‵ (owns (TM.the-row ∷ MutSlice (named 0) κ₀ u8 ∷ MutSlice (named 1) κ₁ u16 ∷ TP.the-row ∷ ShrSlice
+      (named 2) κ₃ u8 ∷ u32 ∷ [])
       args₁ passed₁) ∷ []) ∵ join ! $ frame ! $ done !
 
   -- what it ensures
@@ -202,68 +206,95 @@ module _ {M : Type 1} (𝓤 : URA M) (H : Heap 𝓤) (A : Atoms 𝓤) (W : Given
       move ! (3 ∷ []) $ split ! $ move ! (1 ∷ []) $ split ! $
       -- [κ₁; κ₃ and true; κ₀; obs; the borrow; κ₂; the last lists; the result]
       move ! (5 ∷ 1 ∷ []) $ join ! $ move ! (1 ∷ 0 ∷ []) $ join ! $ move ! (1 ∷ 0 ∷ []) $ join ! $ frame ! $
-      nothing ! $ nothing ! $ fjoin ! $ move ! (1 ∷ 2 ∷ []) $ feqI ! (List Val) (vptr b₂ o₂ ∷ []) (vptr b₂ o₂ ∷ []) refl $ fjoin3 ! $ fjoin ! $
+      nothing ! $ nothing ! $ fjoin ! $ move ! (1 ∷ 2 ∷ []) $ feqI ! (List Val) (vptr b₂ o₂ ∷ []) (vptr b₂ o₂ ∷ []) refl $ fjoin3 ! $
+      fjoin ! $
       move ! (2 ∷ 0 ∷ []) $ fjoin ! $ move ! (1 ∷ 0 ∷ []) $ fjoin ! $ nothing ! $ fjoin ! $ frame ! $ done !
 
   module _ (C : Calls 𝓤 H) (Λ : Loops 𝓤 H) (fm : FmC 𝓤 H (W .laws) C) (known₁ : Triple 𝓤 (C #machine·run) (RunC 𝓤 H A mem run))
-      (known₂ : Triple 𝓤 (C #machine·position-of) (PositionOf 𝓤 H A mem run)) (known₃ : Triple 𝓤 (C #machine·ended-of) (EndedOf 𝓤 H A mem run)) where
+      (known₂ : Triple 𝓤 (C #machine·position-of) (PositionOf 𝓤 H A mem run)) (known₃ : Triple 𝓤 (C #machine·ended-of)
+      (EndedOf 𝓤 H A mem run)) where
     walk : ent 𝓤 (onEntry 𝓤 H A f.signature κs₄ qs₄ x at) (WpFn 𝓤 H C Λ code.function (vm ∷ v₀ ∷ v₁ ∷ vptr b₂ o₂ ∷ v₃ ∷ []) Post)
     walk =
         qed W ((‵ (flft κ₀ q₀) ⊛ ‵ (flft κ₁ q₁) ⊛ ‵ (flft κ₂ q₂) ⊛ ‵ (flft κ₃ q₃) ⊛ ‵ ftrue)
-        ∷ ‵ (owns (TM.the-row ∷ MutSlice (named 0) κ₀ u8 ∷ MutSlice (named 1) κ₁ u16 ∷ MutRef (named 2) κ₂ TP.the-row ∷ ShrSlice (named 3) κ₃ u8 ∷ []) x at)
+        ∷ ‵ (owns (TM.the-row ∷ MutSlice (named 0) κ₀ u8 ∷ MutSlice (named 1) κ₁ u16 ∷ MutRef (named 2) κ₂ TP.the-row ∷ ShrSlice
+        (named 3) κ₃ u8 ∷ []) x at)
         ∷ []) ∵
-        split ! $ move ! (1 ∷ []) $ split ! $ move ! (1 ∷ []) $ split ! $ move ! (1 ∷ []) $ split ! $ move ! (5 ∷ []) $ fsplit ! $ move ! (1 ∷ []) $ fsplit ! $ move ! (1 ∷ []) $ fsplit ! $ move ! (1 ∷ []) $ fsplit ! $ move ! (1 ∷ []) $ fsplit ! $
-        move ! (5 ∷ []) $ peeks ! TM.the-row (Is TM.the-row) (shows 𝓤 H A TM.the-row) m (vm ∷ []) (λ gm. move ! (3 ∷ []) $ fsplit3 ! $ drop ! $
+        split ! $ move ! (1 ∷ []) $ split ! $ move ! (1 ∷ []) $ split ! $ move ! (1 ∷ []) $ split ! $ move ! (5 ∷ []) $ fsplit ! $
+        move ! (1 ∷ []) $ fsplit ! $ move ! (1 ∷ []) $ fsplit ! $ move ! (1 ∷ []) $ fsplit ! $ move ! (1 ∷ []) $ fsplit ! $
+        move ! (5 ∷ []) $ peeks ! TM.the-row (Is TM.the-row) (shows 𝓤 H A TM.the-row) m (vm ∷ []) (λ gm. move ! (3 ∷ []) $ fsplit3 ! $
+        drop ! $
         enter ! C Λ code.function (vm ∷ v₀ ∷ v₁ ∷ vptr b₂ o₂ ∷ v₃ ∷ []) _ $
-        alloc1 ! (λ l₀. alloc1 ! (λ l₁. alloc1 ! (λ l₂. alloc1 ! (λ l₃. alloc1 ! (λ l₄. alloc1 ! (λ l₅. alloc1 ! (λ l₆. alloc1 ! (λ l₇. alloc1 ! (λ l₈. alloc1 ! (λ l₉. alloc1 ! (λ l₁₀. alloc1 ! (λ l₁₁. alloc0 ! $ params1 ! $
+        alloc1 ! (λ l₀. alloc1 !
+        (λ l₁. alloc1 ! (λ l₂. alloc1 !
+        (λ l₃. alloc1 ! (λ l₄. alloc1 !
+        (λ l₅. alloc1 ! (λ l₆. alloc1 ! (λ l₇. alloc1 ! (λ l₈. alloc1 ! (λ l₉. alloc1 ! (λ l₁₀. alloc1 ! (λ l₁₁. alloc0 ! $ params1 ! $
         pass1 ! (init ! 20 refl (LL.lawful TM.the-type TM′.the-laws 𝓤 H A W .typed m _ gm .0)) $
-        pass1 ! (init ! 18 refl (tt, (tt, (record { fits = room₀ .0 }, tt)))) $ pass1 ! (init ! 16 refl (tt, (tt, (record { fits = room₁ .0 }, tt)))) $
+        pass1 ! (init ! 18 refl (tt, (tt, (record { fits = room₀ .0 }, tt)))) $ pass1 !
+        (init ! 16 refl (tt, (tt, (record { fits = room₁ .0 }, tt)))) $
         pass1 ! (init ! 14 refl (tt, tt)) $ pass1 ! (init ! 12 refl (tt, (tt, (record { fits = room₃ .0 }, tt)))) $ pass0 ! $
-        assigns ! (addr ! (from ! (fld ! refl (hop ! (look-in ! 18 (sub ! 0 refl (whole !))) (stop !))))) (from ! (stop !)) (init ! 8 refl (tt, tt)) $
+        assigns ! (addr ! (from ! (fld ! refl (hop ! (look-in ! 18 (sub ! 0 refl (whole !))) (stop !))))) (from ! (stop !))
+        (init ! 8 refl (tt, tt)) $
         assigns ! (agg ! (and-then ! (load ! (from ! (stop !)) (look ! 8 refl))
         (and-then ! (load ! (from ! (fld ! refl (stop !))) (look-in ! 18 (sub ! 1 refl (whole !)))) (no-more !)))) (from ! (stop !))
         (init ! 6 refl (tt, (tt, (record { fits = room₀ .0 }, tt)))) $
-        assigns ! (addr ! (from ! (fld ! refl (hop ! (look-in ! 16 (sub ! 0 refl (whole !))) (stop !))))) (from ! (stop !)) (init ! 4 refl (tt, tt)) $
+        assigns ! (addr ! (from ! (fld ! refl (hop ! (look-in ! 16 (sub ! 0 refl (whole !))) (stop !))))) (from ! (stop !))
+        (init ! 4 refl (tt, tt)) $
         assigns ! (agg ! (and-then ! (load ! (from ! (stop !)) (look ! 4 refl))
         (and-then ! (load ! (from ! (fld ! refl (stop !))) (look-in ! 16 (sub ! 1 refl (whole !)))) (no-more !)))) (from ! (stop !))
         (init ! 2 refl (tt, (tt, (record { fits = room₁ .0 }, tt)))) $
         move ! (24 ∷ 25 ∷ 33 ∷ []) $ opens ! tt TP.the-row {h = h} b₂ o₂ (λ vs.
         spelt ! TP.the-row (Is TP.the-row) (shows 𝓤 H A TP.the-row) (LL.vals TP.the-type TP′.the-laws) (LL.tells TP.the-type TP′.the-laws)
-        fullShare h vs b₂ o₂ $ move ! (1 ∷ []) $ peeks ! TP.the-row (Is TP.the-row) (shows 𝓤 H A TP.the-row) h (LL.vals TP.the-type TP′.the-laws h) (λ was. move ! (1 ∷ 0 ∷ []) $
+        fullShare h vs b₂ o₂ $ move ! (1 ∷ []) $ peeks ! TP.the-row (Is TP.the-row) (shows 𝓤 H A TP.the-row) h
+        (LL.vals TP.the-type TP′.the-laws h) (λ was. move ! (1 ∷ 0 ∷ []) $
         assigns ! (of-opd ! (load ! (from ! (hop ! (look ! 19 refl) (stop !))) (look-raw ! 0 refl))) (from ! (stop !))
         (init ! 5 refl (LL.lawful TP.the-type TP′.the-laws 𝓤 H A W .typed h _ was .0)) $
-        nothing ! $ owned ! u32 (Is u32) (uint-makes 𝓤 H A W w32) 1 _ (refl, lit< tt) $ fjoin ! $ move ! (31 ∷ 0 ∷ []) $ fjoin ! $ move ! (2 ∷ 0 ∷ []) $ fjoin ! $ move ! (31 ∷ 0 ∷ []) $ fjoin ! $ move ! (31 ∷ 0 ∷ []) $ fjoin ! $ move ! (29 ∷ 0 ∷ []) $ fjoin ! $
-        nothing ! $ move ! (31 ∷ 0 ∷ []) $ join ! $ move ! (32 ∷ 0 ∷ []) $ join ! $ move ! (32 ∷ 0 ∷ []) $ join ! $ use2 W (raw (RunC 𝓤 H A mem run .pre to-run)) asked-run $
+        nothing ! $ owned ! u32 (Is u32) (uint-makes 𝓤 H A W w32) 1 _ (refl, lit< tt) $ fjoin ! $ move ! (31 ∷ 0 ∷ []) $ fjoin ! $
+        move ! (2 ∷ 0 ∷ []) $ fjoin ! $ move ! (31 ∷ 0 ∷ []) $ fjoin ! $ move ! (31 ∷ 0 ∷ []) $ fjoin ! $ move ! (29 ∷ 0 ∷ []) $ fjoin ! $
+        nothing ! $ move ! (31 ∷ 0 ∷ []) $ join ! $ move ! (32 ∷ 0 ∷ []) $ join ! $ move ! (32 ∷ 0 ∷ []) $ join ! $ use2 W
+        (raw (RunC 𝓤 H A mem run .pre to-run)) asked-run $
         calls-at ! fm (RunC 𝓤 H A mem run) known₁ to-run
         (and-then ! (load ! (from ! (stop !)) (look ! 25 refl)) (and-then ! (load ! (from ! (stop !)) (look ! 11 refl))
         (and-then ! (load ! (from ! (stop !)) (look ! 7 refl)) (and-then ! (load ! (from ! (stop !)) (look ! 5 refl))
         (and-then ! (load ! (from ! (stop !)) (look ! 17 refl)) (and-then ! (lit ! tt) (no-more !))))))) (λ v.
         use1 W (later (some (λ (r : Run). (tokens₃ ⊛ ‵ (TR.the-row .own r (v ∷ [])))
-        ⊛ raw (ensured 𝓤 H A runs.ended (runs.clauses 𝓤 H A mem run) κs₃ args₁ tt r)))) (id⊢ 𝓤 _) $ await ! tt $ pick ! (λ r. split ! $ move ! (1 ∷ []) $
-        use1 W (some (λ (zs : Lasts runs.ended κs₃ args₁). ‵ (lasts runs.ended κs₃ args₁ zs) ⊛ raw (fact 𝓤 (Ran r zs)))) (id⊢ 𝓤 _) $ pick ! (λ zs. split ! $ move ! (1 ∷ []) $ heard ! (Ran r zs) (λ g.
-        fsplit ! $ drop ! $ fsplit ! $ fsplit ! $ move ! (1 ∷ []) $ feqL ! (λ e₀. move ! (1 ∷ []) $ fsplit ! $ fsplit ! $ move ! (1 ∷ []) $ feqL ! (λ e₁.
+        ⊛ raw (ensured 𝓤 H A runs.ended (runs.clauses 𝓤 H A mem run) κs₃ args₁ tt r)))) (id⊢ 𝓤 _) $ await ! tt $ pick !
+        (λ r. split ! $ move ! (1 ∷ []) $
+        use1 W (some (λ (zs : Lasts runs.ended κs₃ args₁). ‵ (lasts runs.ended κs₃ args₁ zs) ⊛ raw (fact 𝓤 (Ran r zs)))) (id⊢ 𝓤 _) $
+        pick ! (λ zs. split ! $ move ! (1 ∷ []) $ heard ! (Ran r zs) (λ g.
+        fsplit ! $ drop ! $ fsplit ! $ fsplit ! $ move ! (1 ∷ []) $ feqL ! (λ e₀. move ! (1 ∷ []) $ fsplit ! $ fsplit ! $ move !
+        (1 ∷ []) $ feqL ! (λ e₁.
         move ! (3 ∷ []) $ split ! $ move ! (1 ∷ []) $ use1 W (‵ (TR.the-row .own r (v ∷ [])) ⊛ ‵ (TR.the-row .own r (v ∷ [])))
         (LL.copy TR.the-type TR′.the-copy 𝓤 H A W .twice r (v ∷ [])) $ split ! $
         peeks ! TR.the-row (Is TR.the-row) (shows 𝓤 H A TR.the-row) r (v ∷ []) (λ isr.
         land ! (from ! (stop !)) (init ! 20 refl (LL.lawful TR.the-type TR′.the-laws 𝓤 H A W .typed r _ isr .0)) $
         use1 W (raw (PositionOf 𝓤 H A mem run .pre (to-position r v))) (goes-position r v) $
-        calls-at ! fm (PositionOf 𝓤 H A mem run) known₂ (to-position r v) (and-then ! (load ! (from ! (stop !)) (look ! 20 refl)) (no-more !)) (λ w.
+        calls-at ! fm (PositionOf 𝓤 H A mem run) known₂ (to-position r v) (and-then ! (load ! (from ! (stop !)) (look ! 20 refl))
+        (no-more !)) (λ w.
         use1 W (later (some (λ (p : Position). (‵ ftrue ⊛ ‵ (TP.the-row .own p (w ∷ [])))
-        ⊛ raw (ensured 𝓤 H A position-of.ended (position-of.clauses 𝓤 H A mem run) tt (r, tt) tt p)))) (id⊢ 𝓤 _) $ await ! tt $ pick ! (λ p. split ! $ move ! (1 ∷ []) $ use1 W (raw (fact 𝓤 (p ≡ r .position))) (said-position 𝓤 H A mem run r p) $ heard ! (p ≡ r .position) (λ ep.
+        ⊛ raw (ensured 𝓤 H A position-of.ended (position-of.clauses 𝓤 H A mem run) tt (r, tt) tt p)))) (id⊢ 𝓤 _) $ await ! tt $ pick !
+        (λ p. split ! $ move ! (1 ∷ []) $ use1 W (raw (fact 𝓤 (p ≡ r .position))) (said-position 𝓤 H A mem run r p) $ heard !
+        (p ≡ r .position) (λ ep.
         split ! $ drop ! $ peeks ! TP.the-row (Is TP.the-row) (shows 𝓤 H A TP.the-row) p (w ∷ []) (λ isp.
         land ! (from ! (stop !)) (store ! 10 refl (LL.lawful TP.the-type TP′.the-laws 𝓤 H A W .typed p _ isp .0)) $
         assigns ! (of-opd ! (load ! (from ! (stop !)) (look ! 10 refl))) (from ! (hop ! (look ! 24 refl) (stop !)))
         (store-raw ! 6 refl (LL.lawful TP.the-type TP′.the-laws 𝓤 H A W .typed p _ isp .0)) $
         move ! (1 ∷ []) $ use1 W (raw (EndedOf 𝓤 H A mem run .pre (to-ended r v))) (goes-ended r v) $
-        calls-at ! fm (EndedOf 𝓤 H A mem run) known₃ (to-ended r v) (and-then ! (load ! (from ! (stop !)) (look ! 20 refl)) (no-more !)) (λ y.
+        calls-at ! fm (EndedOf 𝓤 H A mem run) known₃ (to-ended r v) (and-then ! (load ! (from ! (stop !)) (look ! 20 refl)) (no-more !))
+        (λ y.
         use1 W (later (some (λ (e : Ended). (‵ ftrue ⊛ ‵ (TE.the-row .own e (y ∷ [])))
-        ⊛ raw (ensured 𝓤 H A ended-of.ended (ended-of.clauses 𝓤 H A mem run) tt (r, tt) tt e)))) (id⊢ 𝓤 _) $ await ! tt $ pick ! (λ e. split ! $ move ! (1 ∷ []) $ use1 W (raw (fact 𝓤 (e ≡ r .ended))) (said-ended 𝓤 H A mem run r e) $ heard ! (e ≡ r .ended) (λ ee.
+        ⊛ raw (ensured 𝓤 H A ended-of.ended (ended-of.clauses 𝓤 H A mem run) tt (r, tt) tt e)))) (id⊢ 𝓤 _) $ await ! tt $ pick !
+        (λ e. split ! $ move ! (1 ∷ []) $ use1 W (raw (fact 𝓤 (e ≡ r .ended))) (said-ended 𝓤 H A mem run r e) $ heard ! (e ≡ r .ended)
+        (λ ee.
         split ! $ drop ! $ peeks ! TE.the-row (Is TE.the-row) (shows 𝓤 H A TE.the-row) e (y ∷ []) (λ ise.
         land ! (from ! (stop !)) (init ! 32 refl (EL.lawful TE.the-type TE′.the-laws 𝓤 H A W tt .typed e _ ise .0)) $
         move ! (6 ∷ 1 ∷ 7 ∷ 8 ∷ 9 ∷ []) $ closes ! tt TP.the-row p (w ∷ []) b₂ o₂ $
         returns ! (look ! 30 refl) $
-        forget ! 8 refl $ forget ! 10 refl $ forget ! 12 refl $ forget ! 14 refl $ forget ! 16 refl $ forget ! 18 refl $ forget ! 20 refl $ forget ! 22 refl $ forget ! 24 refl $ forget ! 26 refl $ forget ! 28 refl $ forget ! 30 refl $
-        move ! (30 ∷ 31 ∷ []) $ free1 ! $ move ! (28 ∷ 29 ∷ []) $ free1 ! $ move ! (26 ∷ 27 ∷ []) $ free1 ! $ move ! (24 ∷ 25 ∷ []) $ free1 ! $ move ! (22 ∷ 23 ∷ []) $ free1 ! $ move ! (20 ∷ 21 ∷ []) $ free1 ! $ move ! (18 ∷ 19 ∷ []) $ free1 ! $ move ! (16 ∷ 17 ∷ []) $ free1 ! $ move ! (14 ∷ 15 ∷ []) $ free1 ! $ move ! (12 ∷ 13 ∷ []) $ free1 ! $ move ! (10 ∷ 11 ∷ []) $ free1 ! $ move ! (8 ∷ 9 ∷ []) $ free1 ! $ free0 ! $
+        forget ! 8 refl $ forget ! 10 refl $ forget ! 12 refl $ forget ! 14 refl $ forget ! 16 refl $ forget ! 18 refl $
+        forget ! 20 refl $ forget ! 22 refl $ forget ! 24 refl $ forget ! 26 refl $ forget ! 28 refl $ forget ! 30 refl $
+        move ! (30 ∷ 31 ∷ []) $ free1 ! $ move ! (28 ∷ 29 ∷ []) $ free1 ! $ move ! (26 ∷ 27 ∷ []) $ free1 ! $ move ! (24 ∷ 25 ∷ []) $
+        free1 ! $ move ! (22 ∷ 23 ∷ []) $ free1 ! $ move ! (20 ∷ 21 ∷ []) $ free1 ! $ move ! (18 ∷ 19 ∷ []) $ free1 ! $ move !
+        (16 ∷ 17 ∷ []) $ free1 ! $ move ! (14 ∷ 15 ∷ []) $ free1 ! $ move ! (12 ∷ 13 ∷ []) $ free1 ! $ move ! (10 ∷ 11 ∷ []) $ free1 ! $
+        move ! (8 ∷ 9 ∷ []) $ free1 ! $ free0 ! $
         keep ! (0 ∷ 1 ∷ 2 ∷ 4 ∷ 7 ∷ 5 ∷ 3 ∷ []) $ by ! (exits p e y zs e₀ e₁ (met r p e zs g ep ee))))))))))))))))))))))))))))))))
 
 module _ {M : Type 1} (𝓤 : URA M) (H : Heap 𝓤) (A : Atoms 𝓤) (W : Given 𝓤 H A) (mem : Memory → SProp 𝓤) (run : Routine → Fun 𝓤) where
@@ -285,13 +316,15 @@ module _ {M : Type 1} (𝓤 : URA M) (H : Heap 𝓤) (A : Atoms 𝓤) (W : Given
       ))
       (λ κs qs bounds a g are. via 𝓤 _ (fst∗ 𝓤 _ (emp 𝓤))
       (walk 𝓤 H A W mem run (κs .0) (κs .1 .0) (κs .1 .1 .0) (κs .1 .1 .1 .0) (qs .0) (qs .1 .0) (qs .1 .1 .0) (qs .1 .1 .1 .0)
-      (a .0) (a .1 .0) (a .1 .1 .0) (a .1 .1 .1 .0 .ptr .0) (a .1 .1 .1 .0 .ptr .1) (a .1 .1 .1 .0 .name) (a .1 .1 .1 .0 .now) (a .1 .1 .1 .1 .0)
+      (a .0) (a .1 .0) (a .1 .1 .0) (a .1 .1 .1 .0 .ptr .0) (a .1 .1 .1 .0 .ptr .1) (a .1 .1 .1 .0 .name) (a .1 .1 .1 .0 .now)
+      (a .1 .1 .1 .1 .0)
       (are .1 .0 .0 .1) (are .1 .1 .0 .0 .1) (are .1 .1 .1 .1 .0 .0 .1) C Λ fm known₁ known₂ known₃))
 
   -- a machine's sizes are at exit as they were passed
   silent : Silent 𝓤 H A W 4 (plain (λ _. TM.the-row)) yes
   silent κs x =
-      subst (λ (e : Exit (TM.the-row .Denot)). (w : Last e x) → left e x w ≡ ftrue) (sym (LL.still TM.the-type TM′.the-copy yes)) (λ w. refl)
+      subst (λ (e : Exit (TM.the-row .Denot)). (w : Last e x) → left e x w ≡ ftrue) (sym (LL.still TM.the-type TM′.the-copy yes))
+      (λ w. refl)
 
   goes : AllGo 𝓤 H A W 4 (f.signature .params) (f.ended .kept) stayed
   goes = (
@@ -308,7 +341,8 @@ module _ {M : Type 1} (𝓤 : URA M) (H : Heap 𝓤) (A : Atoms 𝓤) (W : Given
     ),
   )
 
-step-meets : {M : Type 1} (𝓤 : URA M) (H : Heap 𝓤) (A : Atoms 𝓤) → Given 𝓤 H A → (mem : Memory → SProp 𝓤) (run : Routine → Fun 𝓤) (𝓣 : Tables 𝓤 H)
+step-meets : {M : Type 1} (𝓤 : URA M) (H : Heap 𝓤) (A : Atoms 𝓤) → Given 𝓤 H A → (mem : Memory → SProp 𝓤) (run : Routine → Fun 𝓤)
+    (𝓣 : Tables 𝓤 H)
     → Triple 𝓤 (𝓣 .C #machine·run) (RunC 𝓤 H A mem run) → Triple 𝓤 (𝓣 .C #machine·position-of) (PositionOf 𝓤 H A mem run)
     → Triple 𝓤 (𝓣 .C #machine·ended-of) (EndedOf 𝓤 H A mem run)
     → Meets 𝓤 H A f.signature (WpFn 𝓤 H (𝓣 .C) (𝓣 .Λ) code.function) (f.spec 𝓤 H A mem run)
@@ -323,7 +357,8 @@ step-spec 𝓤 H 𝓜 𝓖 𝓡 =
     (tables 𝓤 H 𝓜 𝓡 code.env .C) (tables 𝓤 H 𝓜 𝓡 code.env .Λ) #machine·step code.function (code.unfolded 𝓤 H 𝓜 𝓡)
     (step-meets 𝓤 H (𝓖 .A) (givenOf 𝓤 H 𝓜 𝓖) (𝓜 .mem) (𝓡 .run) (tablesOf 𝓤 H 𝓜 (tables 𝓤 H 𝓜 𝓡 code.env))
     (cited 𝓤 H (RunC 𝓤 H (𝓖 .A) (𝓜 .mem) (𝓡 .run)) 𝓜 𝓡 code.env #machine·run run-def.routine code.calls-machine·run (run-thm.met 𝓤 H 𝓜 𝓖 𝓡))
-    (cited 𝓤 H (PositionOf 𝓤 H (𝓖 .A) (𝓜 .mem) (𝓡 .run)) 𝓜 𝓡 code.env #machine·position-of position-of-def.routine code.calls-machine·position-of
+    (cited 𝓤 H (PositionOf 𝓤 H (𝓖 .A) (𝓜 .mem)
+    (𝓡 .run)) 𝓜 𝓡 code.env #machine·position-of position-of-def.routine code.calls-machine·position-of
     (position-of-thm.met 𝓤 H 𝓜 𝓖 𝓡))
     (cited 𝓤 H (EndedOf 𝓤 H (𝓖 .A) (𝓜 .mem) (𝓡 .run)) 𝓜 𝓡 code.env #machine·ended-of ended-of-def.routine code.calls-machine·ended-of
     (ended-of-thm.met 𝓤 H 𝓜 𝓖 𝓡)))

@@ -1,3 +1,4 @@
+-- `value` meets its contract: rule 10, and then the first length.
 use mathlib.Core.Path.{sym, _∙_}
 use Rattle.theory.specs.Machines.{Memory}
 use Rattle.machine.specs.Calls.{memory}
@@ -5,10 +6,6 @@ use Rattle.machine.proofs.RegisterOne.{first-length, value-refused, val
 use borrow.Author.Needs.{needs}
 use Rattle.machine.proofs.value.Statement.{statement}
 use Rattle.machine.proofs.value.Tie as tie
-use Rattle.machine.proofs.value.Reads as reads
-use Rattle.machine.proofs.value.Lts as lts
-use Rattle.machine.proofs.memory.is_memory.Reads as is-memory-reads
-use Rattle.machine.proofs.store.wide.Reads as wide-reads
 
 is-memory-requires : tie.Need-is-memory-requires
 is-memory-requires c κs = search needs

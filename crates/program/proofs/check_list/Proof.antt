@@ -1,10 +1,10 @@
 -- `program::check_list` meets its contract: before each command the faults that are left are those of the whole list.
 use mathlib.Core.Path.{_∙_}
-use Rattle.program.proofs.Pairs.{judged-fault, judged-passes}
 use Prim.Native.Nat.{_≤_, _-_}
 use native.Mathlib.Omega.{arith}
 use borrow.Author.Needs.{needs}
 use lib.ListN.{length}
+use Rattle.program.proofs.Pairs.{judged-fault, judged-passes}
 use Rattle.program.proofs.ListCheck.{SoFar, at-first, too-many, faulty, onward, cut, whole}
 use Rattle.program.proofs.check_list.Statement.{statement}
 use Rattle.program.proofs.check_list.Tie as tie
@@ -15,18 +15,20 @@ Inv-loop list nest₀ lines₀ variables₀ nest lines variables = (length list 
 abbrev μ-loop : tie.MeasureT-loop
 μ-loop list nest₀ lines₀ variables₀ nest lines variables = length list - lines
 
-add-t11 : tie.Need-add-t11 Inv-loop μ-loop
-add-t11 c = omega arith
+add-refused : tie.Need-add-refused Inv-loop μ-loop
+add-refused c = omega arith
+
+refused-requires : tie.Need-refused-requires Inv-loop μ-loop
+refused-requires c κs = tt
 
 returns : tie.Need-returns Inv-loop μ-loop
-returns c = too-many (c .before .before .args .list .now) (omega arith)
+returns c = rw (c .refused .ensures) (too-many (c .before .before .before .args .list .now) (omega arith))
 
 none-requires : tie.Need-none-requires Inv-loop μ-loop
 none-requires c κs = tt
 
 loop-holds : tie.Need-loop-holds Inv-loop μ-loop
-loop-holds c = let l = c .before .before .before .args .list .now in
-    (omega arith, rw (c .none .ensures) (at-first l))
+loop-holds c = (omega arith, rw (c .none .ensures) (at-first (c .before .before .before .args .list .now)))
 
 mul-loop : tie.Need-mul-loop Inv-loop μ-loop
 mul-loop c = omega arith
@@ -91,21 +93,24 @@ loop-less : tie.Need-loop-less Inv-loop μ-loop
 loop-less c = omega arith
 
 loop-again : tie.Need-loop-again Inv-loop μ-loop
-loop-again c = let m = c .before .before .before .before .before .before .before .before .before .loop in (
-  m .inv .0,
-  onward (c .before .before .before .before .before .before .before .before .before .before .before .before .before .args .list .now) (m .lines) (m .variables) (m .nest) (m .inv .1) (c .before .before .before .before .before .before .before .before .loop-test .taken) _ _
-      (judged-passes _ (c .before .before .before .before .judged .ensures) (c .before .before .enum-told .given .1)) (c .before .next .ensures) (c .named .ensures),
-)
+loop-again c = let m = c .before .before .before .before .before .before .before .before .before .loop in
+    let passed = judged-passes _ (c .before .before .before .before .judged .ensures) (c .before .before .enum-told .given .1) in
+    let so-far = onward (c .before .before .before .before .before .before .before .before .before .before .before .before .before .args .list .now) (m .lines) (m .variables) (m .nest) (m .inv .1) (c .before .before .before .before .before .before .before .before .loop-test .taken) in
+    (m .inv .0, so-far _ _ passed (c .before .next .ensures) (c .named .ensures))
 
 mul-if2 : tie.Need-mul-if2 Inv-loop μ-loop
 mul-if2 c = omega arith
 
-add-t23 : tie.Need-add-t23 Inv-loop μ-loop
-add-t23 c = omega arith
+add-refused-2 : tie.Need-add-refused-2 Inv-loop μ-loop
+add-refused-2 c = omega arith
+
+refused-requires-2 : tie.Need-refused-requires-2 Inv-loop μ-loop
+refused-requires-2 c κs = tt
 
 returns-3 : tie.Need-returns-3 Inv-loop μ-loop
-returns-3 c = let m = c .before .before .loop in
-    cut (c .before .before .before .before .before .before .args .list .now) (m .lines) (m .variables) (m .nest) (m .inv .1) (omega arith) (omega arith) (m .inv .0)
+returns-3 c = let m = c .before .before .before .loop in
+    rw (c .refused2 .ensures)
+    (cut (c .before .before .before .before .before .before .before .args .list .now) (m .lines) (m .variables) (m .nest) (m .inv .1) (omega arith) (omega arith) (m .inv .0))
 
 ended-requires : tie.Need-ended-requires Inv-loop μ-loop
 ended-requires c κs = c .before .before .loop .inv .1 .room
@@ -120,7 +125,8 @@ check-list-spec =
     (tie.spec
     Inv-loop
     μ-loop
-    add-t11
+    add-refused
+    refused-requires
     returns
     none-requires
     loop-holds
@@ -146,7 +152,8 @@ check-list-spec =
     loop-less
     loop-again
     mul-if2
-    add-t23
+    add-refused-2
+    refused-requires-2
     returns-3
     ended-requires
     returns-4)

@@ -8,9 +8,11 @@ use borrow.Author.Needs.{needs}
 use Rattle.program.proofs.read.Statement.{statement}
 use Rattle.program.proofs.read.Tie as tie
 
+refused-requires : tie.Need-refused-requires
+refused-requires c κs = search needs
+
 returns : tie.Need-returns
-returns c = let a = c .before .before .before .args in
-    reads-refused (a .text .now) (a .list .now) _ (refused-1 (a .text .now) (omega arith))
+returns c = rw (c .refused .ensures) (reads-refused (c .before .before .before .before .args .text .now) (c .before .before .before .before .args .list .now) _ (refused-1 (c .before .before .before .before .args .text .now) (omega arith)))
 
 slice-aggregate-read-lines : tie.Need-slice-aggregate-read-lines
 slice-aggregate-read-lines c = search needs
@@ -21,16 +23,25 @@ read-lines-requires c κs = search needs
 is-ended-requires : tie.Need-is-ended-requires
 is-ended-requires c κs = search needs
 
-returns-2 : tie.Need-returns-2
-returns-2 c = let a = c .before .before .before .before .before .before .before .before .args in
-    read-unended (a .text .now) (a .list .now) (c .before .before .before .read-lines .last .1 .0) (c .before .before .before .read-lines .result) (c .before .before .before .read-lines .ensures) (omega arith) (sym (c .before .is-ended .ensures) ∙ not-true _ (c .if2 .taken))
+refused-requires-2 : tie.Need-refused-requires-2
+refused-requires-2 c κs = search needs
 
-add-t15 : tie.Need-add-t15
-add-t15 c = search needs
+returns-2 : tie.Need-returns-2
+returns-2 c = let a = c .before .before .before .before .before .before .before .before .before .args in
+    let lines = c .before .before .before .before .read-lines in
+    rw (c .refused2 .ensures) (read-unended (a .text .now) (a .list .now) (lines .last .1 .0) (lines .result) (lines .ensures) (omega arith) (sym (c .before .before .is-ended .ensures) ∙ not-true _ (c .before .if2 .taken)))
+
+add-refused : tie.Need-add-refused
+add-refused c = search needs
+
+refused-requires-3 : tie.Need-refused-requires-3
+refused-requires-3 c κs = search needs
 
 returns-3 : tie.Need-returns-3
-returns-3 c = let a = c .before .before .before .before .before .before .before .before .before .args in
-    read-long (a .text .now) (a .list .now) (c .before .before .before .before .read-lines .last .1 .0) (c .before .before .before .before .read-lines .result) (c .before .before .before .before .read-lines .ensures) (omega arith) (sym (c .before .before .is-ended .ensures) ∙ not-false _ (c .before .if2 .left)) (c .if3 .taken)
+returns-3 c = let a = c .before .before .before .before .before .before .before .before .before .before .args in
+    let lines = c .before .before .before .before .before .read-lines in
+    let ended = sym (c .before .before .before .is-ended .ensures) ∙ not-false _ (c .before .before .if2 .left) in
+    rw (c .refused3 .ensures) (read-long (a .text .now) (a .list .now) (lines .last .1 .0) (lines .result) (lines .ensures) (omega arith) ended (c .before .if3 .taken))
 
 mul-count : tie.Need-mul-count
 mul-count c = search needs
@@ -40,7 +51,9 @@ array-share-prefix-numbers c = search needs
 
 slice-aggregate-check-list : tie.Need-slice-aggregate-check-list
 slice-aggregate-check-list c = let a = c .before .before .before .before .before .before .before .before .before .before .args in
-    sym (part-length (a .text .now) (a .list .now) (c .before .before .before .before .before .read-lines .last .1 .0) (c .before .before .before .before .before .read-lines .result) (c .before .before .before .before .before .read-lines .ensures) (omega arith) (sym (c .before .before .before .is-ended .ensures) ∙ not-false _ (c .before .before .if2 .left)) (c .before .if3 .left))
+    let lines = c .before .before .before .before .before .read-lines in
+    let ended = sym (c .before .before .before .is-ended .ensures) ∙ not-false _ (c .before .before .if2 .left) in
+    sym (part-length (a .text .now) (a .list .now) (lines .last .1 .0) (lines .result) (lines .ensures) (omega arith) ended (c .before .if3 .left))
 
 check-list-requires : tie.Need-check-list-requires
 check-list-requires c κs = search needs
@@ -51,45 +64,63 @@ enum-known-r c = search needs
 enum-known-program : tie.Need-enum-known-program
 enum-known-program c = search needs
 
+refused-requires-4 : tie.Need-refused-requires-4
+refused-requires-4 c κs = search needs
+
 returns-4 : tie.Need-returns-4
-returns-4 c = let a = c .before .before .before .before .before .before .before .before .before .before .before .before .before .before .before .args in
-    read-no-room (a .text .now) (a .list .now) (c .before .before .before .before .before .before .before .before .before .before .read-lines .last .1 .0) (c .before .before .before .before .before .before .before .before .before .before .read-lines .result) (c .before .before .before .before .before .before .before .before .before .before .read-lines .ensures) (omega arith) (sym (c .before .before .before .before .before .before .before .before .is-ended .ensures) ∙ not-false _ (c .before .before .before .before .before .before .before .if2 .left)) (c .before .before .before .before .before .before .if3 .left)
-    (c .before .before .before .before .check-list .ensures) (c .before .before .program .given .1) (c .if4 .taken)
+returns-4 c = let a = c .before .before .before .before .before .before .before .before .before .before .before .before .before .before .before .before .args in
+    let lines = c .before .before .before .before .before .before .before .before .before .before .before .read-lines in
+    let ended = sym (c .before .before .before .before .before .before .before .before .before .is-ended .ensures) ∙ not-false _ (c .before .before .before .before .before .before .before .before .if2 .left) in
+    rw (c .refused4 .ensures)
+    (read-no-room (a .text .now) (a .list .now) (lines .last .1 .0) (lines .result) (lines .ensures) (omega arith) ended
+    (c .before .before .before .before .before .before .before .if3 .left) (c .before .before .before .before .before .check-list .ensures) (c .before .before .before .program .given .1) (c .before .if4 .taken))
 
 array-share-prefix-numbers-2 : tie.Need-array-share-prefix-numbers-2
 array-share-prefix-numbers-2 c = search needs
 
 slice-aggregate-put-bytes : tie.Need-slice-aggregate-put-bytes
 slice-aggregate-put-bytes c = let a = c .before .before .before .before .before .before .before .before .before .before .before .before .before .before .before .before .before .args in
-    sym (part-length (a .text .now) (a .list .now) (c .before .before .before .before .before .before .before .before .before .before .before .before .read-lines .last .1 .0) (c .before .before .before .before .before .before .before .before .before .before .before .before .read-lines .result) (c .before .before .before .before .before .before .before .before .before .before .before .before .read-lines .ensures) (omega arith) (sym (c .before .before .before .before .before .before .before .before .before .before .is-ended .ensures) ∙ not-false _ (c .before .before .before .before .before .before .before .before .before .if2 .left)) (c .before .before .before .before .before .before .before .before .if3 .left))
+    let lines = c .before .before .before .before .before .before .before .before .before .before .before .before .read-lines in
+    let ended = sym (c .before .before .before .before .before .before .before .before .before .before .is-ended .ensures) ∙ not-false _ (c .before .before .before .before .before .before .before .before .before .if2 .left) in
+    sym (part-length (a .text .now) (a .list .now) (lines .last .1 .0) (lines .result) (lines .ensures) (omega arith) ended (c .before .before .before .before .before .before .before .before .if3 .left))
 
 put-bytes-requires : tie.Need-put-bytes-requires
 put-bytes-requires c κs = let a = c .before .before .before .before .before .before .before .before .before .before .before .before .before .before .before .before .before .args in
-    omega (arith, part-length (a .text .now) (a .list .now) (c .before .before .before .before .before .before .before .before .before .before .before .before .read-lines .last .1 .0) (c .before .before .before .before .before .before .before .before .before .before .before .before .read-lines .result) (c .before .before .before .before .before .before .before .before .before .before .before .before .read-lines .ensures) (omega arith) (sym (c .before .before .before .before .before .before .before .before .before .before .is-ended .ensures) ∙ not-false _ (c .before .before .before .before .before .before .before .before .before .if2 .left)) (c .before .before .before .before .before .before .before .before .if3 .left), c .before .before .if4 .left)
+    let lines = c .before .before .before .before .before .before .before .before .before .before .before .before .read-lines in
+    let ended = sym (c .before .before .before .before .before .before .before .before .before .before .is-ended .ensures) ∙ not-false _ (c .before .before .before .before .before .before .before .before .before .if2 .left) in
+    omega (arith, part-length (a .text .now) (a .list .now) (lines .last .1 .0) (lines .result) (lines .ensures) (omega arith) ended (c .before .before .before .before .before .before .before .before .if3 .left), c .before .before .if4 .left)
 
 returns-5 : tie.Need-returns-5
 returns-5 c = let a = c .before .before .before .before .before .before .before .before .before .before .before .before .before .before .args in
-    read-fault (a .text .now) (a .list .now) (c .before .before .before .before .before .before .before .before .before .read-lines .last .1 .0) (c .before .before .before .before .before .before .before .before .before .read-lines .result) (c .before .before .before .before .before .before .before .before .before .read-lines .ensures) (omega arith) (sym (c .before .before .before .before .before .before .before .is-ended .ensures) ∙ not-false _ (c .before .before .before .before .before .before .if2 .left)) (c .before .before .before .before .before .if3 .left)
-    (c .before .before .before .check-list .ensures) (c .before .r .given .1)
+    let lines = c .before .before .before .before .before .before .before .before .before .read-lines in
+    let ended = sym (c .before .before .before .before .before .before .before .is-ended .ensures) ∙ not-false _ (c .before .before .before .before .before .before .if2 .left) in
+    read-fault (a .text .now) (a .list .now) (lines .last .1 .0) (lines .result) (lines .ensures) (omega arith) ended
+    (c .before .before .before .before .before .if3 .left) (c .before .before .before .check-list .ensures) (c .before .r .given .1)
 
 same-length : tie.Need-same-length
 same-length c = search needs
 
 returns-6 : tie.Need-returns-6
 returns-6 c = let a = c .before .before .before .before .before .before .before .before .before .before .before .before .before .before .before .before .before .before .before .before .args in
-    read-all (a .text .now) (a .list .now) (c .before .before .before .before .before .before .before .before .before .before .before .before .before .before .before .read-lines .last .1 .0) (c .before .before .before .before .before .before .before .before .before .before .before .before .before .before .before .read-lines .result) (c .before .before .before .before .before .before .before .before .before .before .before .before .before .before .before .read-lines .ensures) (omega arith) (sym (c .before .before .before .before .before .before .before .before .before .before .before .before .before .is-ended .ensures) ∙ not-false _ (c .before .before .before .before .before .before .before .before .before .before .before .before .if2 .left)) (c .before .before .before .before .before .before .before .before .before .before .before .if3 .left)
-    (c .before .before .before .before .before .before .before .before .before .check-list .ensures) (c .before .before .before .before .before .before .before .program .given .1) (c .before .before .before .before .before .if4 .left) (c .before .before .put-bytes .ensures)
+    let lines = c .before .before .before .before .before .before .before .before .before .before .before .before .before .before .before .read-lines in
+    let ended = sym (c .before .before .before .before .before .before .before .before .before .before .before .before .before .is-ended .ensures) ∙ not-false _ (c .before .before .before .before .before .before .before .before .before .before .before .before .if2 .left) in
+    read-all (a .text .now) (a .list .now) (lines .last .1 .0) (lines .result) (lines .ensures) (omega arith) ended
+    (c .before .before .before .before .before .before .before .before .before .before .before .if3 .left) (c .before .before .before .before .before .before .before .before .before .check-list .ensures) (c .before .before .before .before .before .before .before .program .given .1)
+    (c .before .before .before .before .before .if4 .left) (c .before .before .put-bytes .ensures)
 
 pub read-spec : {M : Type 1} → statement M
 read-spec =
     tie.close
     (tie.spec
+    refused-requires
     returns
     slice-aggregate-read-lines
     read-lines-requires
     is-ended-requires
+    refused-requires-2
     returns-2
-    add-t15
+    add-refused
+    refused-requires-3
     returns-3
     mul-count
     array-share-prefix-numbers
@@ -97,6 +128,7 @@ read-spec =
     check-list-requires
     enum-known-r
     enum-known-program
+    refused-requires-4
     returns-4
     array-share-prefix-numbers-2
     slice-aggregate-put-bytes

@@ -130,8 +130,8 @@ module _ (c : tie.After-walk) where
       ≡ outcome-of (c .walk .result) values passes
   ran = rw (c .before .before .before .before .before .least .ensures) at (c .walk .ensures)
 
-add-t24 : tie.Need-add-t24
-add-t24 c =
+add-steps : tie.Need-add-steps
+add-steps c =
     let w : tie.After-walk = c .before .before .before .before in
     omega (arith, taken-few _ (s w .args .state) (s w .args .budget) (w .walk .result) (values w) (passes w) (ran w), counted (s w))
 
@@ -161,5 +161,5 @@ run-accepted-spec =
     slice-aggregate-walk-3
     slice-aggregate-walk-4
     walk-requires
-    add-t24
+    add-steps
     returns-2)

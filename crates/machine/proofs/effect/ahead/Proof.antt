@@ -1,12 +1,9 @@
-use Rattle.machine.proofs.Signs as signs
+-- `ahead` meets its contract: a number below 2 ^ 31 is itself as a signed one.
 use mir.Syntax.{w32}
-use mir.Facts.{toZ-pos, toZ-ofZ, fits-natAbs}
-use mathlib.Core.Path.{_∙_, refl, ap}
+use mir.Facts.{toZ-pos}
 use borrow.Author.Needs.{needs}
 use Rattle.machine.proofs.effect.ahead.Statement.{statement}
 use Rattle.machine.proofs.effect.ahead.Tie as tie
-use Rattle.machine.proofs.effect.ahead.Reads as reads
-use Rattle.machine.proofs.effect.ahead.Lts as lts
 
 cast-result : tie.Need-cast-result
 cast-result c = search needs

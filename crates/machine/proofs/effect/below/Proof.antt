@@ -1,12 +1,11 @@
+-- `below` meets its contract: the negative of a number below 2 ^ 31.
 use Rattle.machine.proofs.Signs as signs
 use mir.Syntax.{w32}
-use mir.Facts.{toZ-pos, toZ-ofZ, fits-natAbs}
-use mathlib.Core.Path.{_∙_, refl, ap}
+use mir.Facts.{toZ-pos, toZ-ofZ}
+use mathlib.Core.Path.{_∙_}
 use borrow.Author.Needs.{needs}
 use Rattle.machine.proofs.effect.below.Statement.{statement}
 use Rattle.machine.proofs.effect.below.Tie as tie
-use Rattle.machine.proofs.effect.below.Reads as reads
-use Rattle.machine.proofs.effect.below.Lts as lts
 
 cast-result : tie.Need-cast-result
 cast-result c = search needs

@@ -1,9 +1,7 @@
+-- `by_byte` meets its contract, arm by arm.
 use borrow.Author.Tests.{ne-eqb}
-use borrow.Author.Needs.{needs}
 use Rattle.machine.proofs.effect.by_byte.Statement.{statement}
 use Rattle.machine.proofs.effect.by_byte.Tie as tie
-use Rattle.machine.proofs.effect.by_byte.Reads as reads
-use Rattle.machine.proofs.effect.by_byte.Lts as lts
 
 returns : tie.Need-returns
 returns c = rw (c .match .keys1)

@@ -1,8 +1,7 @@
+-- `next_if` meets its contract, by its test.
 use borrow.Author.Needs.{needs}
 use Rattle.machine.proofs.effect.next_if.Statement.{statement}
 use Rattle.machine.proofs.effect.next_if.Tie as tie
-use Rattle.machine.proofs.effect.next_if.Reads as reads
-use Rattle.machine.proofs.effect.next_if.Lts as lts
 
 add-t5 : tie.Need-add-t5
 add-t5 c = search needs

@@ -1,11 +1,8 @@
+-- `number` meets its contract, by the place's sign.
 use Rattle.machine.proofs.Signs as signs
-use mir.Syntax.{w32}
-use mir.Facts.{toZ-pos, toZ-ofZ, fits-natAbs}
-use mathlib.Core.Path.{_∙_, refl, ap}
+use mir.Facts.{toZ-ofZ, fits-natAbs}
 use Rattle.machine.proofs.effect.number.Statement.{statement}
 use Rattle.machine.proofs.effect.number.Tie as tie
-use Rattle.machine.proofs.effect.number.Reads as reads
-use Rattle.machine.proofs.effect.number.Lts as lts
 
 cast-result : tie.Need-cast-result
 cast-result c =

@@ -1,3 +1,4 @@
+-- `perform` meets its contract: in each arm the kind decides the instruction, and what the called function did is what the definition does.
 use mathlib.Core.Path.{_≡_, refl, ap, _∙_}
 use Prim.Native.Nat.{suc, _-_, _<_}
 use native.Mathlib.Omega.{arith}
@@ -9,12 +10,6 @@ use Rattle.machine.proofs.Steps.{did-append, did-forward, did-backward,
 use borrow.Author.Needs.{needs}
 use Rattle.machine.proofs.effect.perform.Statement.{statement}
 use Rattle.machine.proofs.effect.perform.Tie as tie
-use Rattle.machine.proofs.effect.perform.Reads as reads
-use Rattle.machine.proofs.effect.perform.Lts as lts
-use Rattle.machine.proofs.store.append.Reads as append-reads
-use Rattle.machine.proofs.effect.by_byte.Reads as by-byte-reads
-use Rattle.machine.proofs.store.delete_first.Reads as delete-first-reads
-use Rattle.machine.proofs.effect.next_if.Reads as next-if-reads
 
 -- kinds are 1 to 5, so that what is none of the first four is 5
 is-five : (c : tie.At-match-rest) → c .before .before .before .args .kind ≡ 5
@@ -66,7 +61,12 @@ by-byte-requires : tie.Need-by-byte-requires
 by-byte-requires c κs = search needs
 
 add-t32 : tie.Need-add-t32
-add-t32 c = omega (arith, by-byte-small (c .before .before .before .before .before .delete-first .result), c .by-byte .ensures, c .before .before .before .before .before .before .before .before .before .before .before .pre .4)
+add-t32 c = omega (
+  arith,
+  by-byte-small (c .before .before .before .before .before .delete-first .result),
+  c .by-byte .ensures,
+  c .before .before .before .before .before .before .before .before .before .before .before .pre .4,
+)
 
 same-length : tie.Need-same-length
 same-length c = search needs
@@ -77,7 +77,8 @@ same-length-2 c = search needs
 returns : tie.Need-returns
 returns c f i k o h =
     let a = c .before .before .before .before .before .before .before .before .before .before .before .args in
-    let e : a .operand ≡ suc (a .operand - 1) = omega (arith, c .before .before .before .before .before .before .before .before .before .before .before .pre .2 .some) in
+    let e : a .operand ≡ suc (a .operand - 1) = omega
+    (arith, c .before .before .before .before .before .before .before .before .before .before .before .pre .2 .some) in
     let done = c .before .before .before .before .before .append in
     rw (is-append-one i (k ∙ c .before .before .before .before .before .before .before .before .match .keys1) (o ∙ e), c .next-if .ensures)
     (did-append (a .capacity) f (a .here) _ _ (a .operand - 1) one (done .result) (done .ensures f one refl h))
@@ -91,15 +92,20 @@ same-length-4 c = search needs
 returns-2 : tie.Need-returns-2
 returns-2 c f i k o h =
     let a = c .before .before .before .before .before .before .before .before .before .before .before .args in
-    let e : a .operand ≡ suc (a .operand - 1) = omega (arith, c .before .before .before .before .before .before .before .before .before .before .before .pre .2 .some) in
+    let e : a .operand ≡ suc (a .operand - 1) = omega
+    (arith, c .before .before .before .before .before .before .before .before .before .before .before .pre .2 .some) in
     let done = c .before .before .before .before .before .append2 in
-    rw (is-append-hash i (k ∙ c .before .before .before .before .before .before .before .before .match .keys2) (o ∙ e), c .next-if2 .ensures)
+    rw (
+      is-append-hash i (k ∙ c .before .before .before .before .before .before .before .before .match .keys2) (o ∙ e),
+      c .next-if2 .ensures,
+    )
     (did-append (a .capacity) f (a .here) _ _ (a .operand - 1) hash (done .result) (done .ensures f hash refl h))
 
 returns-3 : tie.Need-returns-3
 returns-3 c f i k o h =
     let a = c .before .before .before .args in
-    rw (is-forward i (k ∙ c .match .keys3) o) (did-forward (a .capacity) f (a .here) _ _ (a .operand) (c .before .before .before .pre .2 .small) h)
+    rw (is-forward i (k ∙ c .match .keys3) o) (did-forward (a .capacity) f (a .here) _ _ (a .operand)
+    (c .before .before .before .pre .2 .small) h)
 
 returns-4 : tie.Need-returns-4
 returns-4 c f i k o h =
@@ -117,7 +123,8 @@ same-length-6 c = search needs
 returns-5 : tie.Need-returns-5
 returns-5 c f i k o h =
     let a = c .before .before .before .before .before .before .before .before .before .before .before .args in
-    let e : a .operand ≡ suc (a .operand - 1) = omega (arith, c .before .before .before .before .before .before .before .before .before .before .before .pre .2 .some) in
+    let e : a .operand ≡ suc (a .operand - 1) = omega
+    (arith, c .before .before .before .before .before .before .before .before .before .before .before .pre .2 .some) in
     let r = c .before .before .before .before .before .before .before .before .match .rest in
     let b = c .before .before .before .before .before .delete-first in
     rw (is-cases i (r .0 .0 .0 .1) (r .0 .0 .1) (r .0 .1) (r .1) k (o ∙ e), c .by-byte .ensures)

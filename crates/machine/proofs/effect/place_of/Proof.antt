@@ -1,15 +1,11 @@
+-- `place_of` meets its contract, by the side of place 0 on which it lies.
 use Rattle.machine.specs.Steps.{bias, placed}
 use Rattle.machine.proofs.Signs as signs
-use mir.Syntax.{w32}
-use mir.Facts.{toZ-pos, toZ-ofZ, fits-natAbs}
-use mathlib.Core.Path.{_∙_, refl, ap}
+use mir.Facts.{toZ-ofZ}
+use mathlib.Core.Path.{_∙_}
 use borrow.Author.Needs.{needs}
 use Rattle.machine.proofs.effect.place_of.Statement.{statement}
 use Rattle.machine.proofs.effect.place_of.Tie as tie
-use Rattle.machine.proofs.effect.place_of.Reads as reads
-use Rattle.machine.proofs.effect.place_of.Lts as lts
-use Rattle.machine.proofs.effect.ahead.Reads as ahead-reads
-use Rattle.machine.proofs.effect.below.Reads as below-reads
 
 ahead-requires : tie.Need-ahead-requires
 ahead-requires c κs = search needs
@@ -22,11 +18,13 @@ below-requires c κs = search needs
 
 returns : tie.Need-returns
 unfolding placed
-returns c = toZ-ofZ (record { sfits = c .ahead .ok }) ∙ c .ahead .ensures ∙ signs.sub-ge (c .before .before .args .here) bias (c .before .if1 .taken)
+returns c = toZ-ofZ (record { sfits = c .ahead .ok }) ∙ c .ahead .ensures ∙ signs.sub-ge (c .before .before .args .here) bias
+    (c .before .if1 .taken)
 
 returns-2 : tie.Need-returns-2
 unfolding placed
-returns-2 c = toZ-ofZ (record { sfits = c .below .ok }) ∙ c .below .ensures ∙ signs.sub-lt (c .before .before .args .here) bias (c .before .if1 .left)
+returns-2 c = toZ-ofZ (record { sfits = c .below .ok }) ∙ c .below .ensures ∙ signs.sub-lt (c .before .before .args .here) bias
+    (c .before .if1 .left)
 
 pub place-of-spec : {M : Type 1} → statement M
 place-of-spec = tie.close (tie.spec ahead-requires sub-below below-requires returns returns-2)

@@ -1,10 +1,9 @@
+-- `allowance` meets its contract: the budget or what the count has left, whichever is less.
 use mathlib.Core.Path.{refl}
 use mathlib.Core.Logic.{inl, inr}
 use borrow.Author.Needs.{needs}
 use Rattle.machine.proofs.inside.allowance.Statement.{statement}
 use Rattle.machine.proofs.inside.allowance.Tie as tie
-use Rattle.machine.proofs.inside.allowance.Reads as reads
-use Rattle.machine.proofs.inside.allowance.Lts as lts
 
 sub-left : tie.Need-sub-left
 sub-left c = search needs

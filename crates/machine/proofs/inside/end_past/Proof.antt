@@ -1,9 +1,8 @@
+-- `end_past` meets its contract, by its test.
 use borrow.Author.Tests.{eq-eqb, ne-eqb}
 use borrow.Author.Needs.{needs}
 use Rattle.machine.proofs.inside.end_past.Statement.{statement}
 use Rattle.machine.proofs.inside.end_past.Tie as tie
-use Rattle.machine.proofs.inside.end_past.Reads as reads
-use Rattle.machine.proofs.inside.end_past.Lts as lts
 
 add-if1 : tie.Need-add-if1
 add-if1 c = search needs

@@ -1,3 +1,4 @@
+-- `run_inside` meets its contract: between two steps the run of the definition is under way, and the store holds its registers.
 use mathlib.Core.Path.{sym, ap, _∙_, subst}
 use mathlib.Core.Option.{Option, some}
 use lib.ListN.{length}
@@ -14,11 +15,6 @@ use Rattle.machine.proofs.Running.{Running, running-start, running-ende
 use borrow.Author.Needs.{needs}
 use Rattle.machine.proofs.inside.run_inside.Statement.{statement}
 use Rattle.machine.proofs.inside.run_inside.Tie as tie
-use Rattle.machine.proofs.inside.run_inside.Reads as reads
-use Rattle.machine.proofs.inside.run_inside.Lts as lts
-use Rattle.machine.proofs.inside.allowance.Reads as allowance-reads
-use Rattle.machine.proofs.inside.end_past.Reads as end-past-reads
-use Rattle.machine.proofs.effect.perform.Reads as perform-reads
 
 abbrev Inv-loop : tie.InvT-loop
 Inv-loop store₀ lengths₀ capacity kinds operands from steps budget last allowed here₀ k₀ store lengths here k =
@@ -59,7 +55,8 @@ returns c =
     let u = c .before .before .before .before .before .before .before .before .before .pre .1 in
     let al = h .before .allowance in
     let past = past-ended (length (a .kinds .now)) (h .loop .here) (search needs) in
-    running-ended (a .capacity) (a .store .now) (a .lengths .now) (a .kinds .now) (a .operands .now) (a .from) (a .steps) (a .budget) (al .result) (h .loop .inv) u
+    running-ended (a .capacity) (a .store .now) (a .lengths .now) (a .kinds .now) (a .operands .now) (a .from) (a .steps) (a .budget)
+    (al .result) (h .loop .inv) u
     (c .end-past .result) (past ∙ ap {B = Option End} some (sym (c .end-past .ensures)))
 
 same-length-3 : tie.Need-same-length-3 Inv-loop μ-loop
@@ -74,7 +71,8 @@ returns-2 c =
     let a = c .before .before .before .before .before .before .before .before .before .args in
     let u = c .before .before .before .before .before .before .before .before .before .pre .1 in
     let al = h .before .allowance in
-    running-spent (a .capacity) (a .store .now) (a .lengths .now) (a .kinds .now) (a .operands .now) (a .from) (a .steps) (a .budget) (al .result) (h .loop .inv) u (search needs) (search needs) (al .ensures)
+    running-spent (a .capacity) (a .store .now) (a .lengths .now) (a .kinds .now) (a .operands .now) (a .from) (a .steps) (a .budget)
+    (al .result) (h .loop .inv) u (search needs) (search needs) (al .ensures)
     (c .if2 .taken)
 
 sub-i : tie.Need-sub-i Inv-loop μ-loop
@@ -87,13 +85,15 @@ cast-i : tie.Need-cast-i Inv-loop μ-loop
 cast-i c = search needs
 
 shared-slice-read-perform : tie.Need-shared-slice-read-perform Inv-loop μ-loop
-shared-slice-read-perform c = omega (arith, c .before .before .before .before .before .before .before .before .before .before .before .before .pre .1 .count)
+shared-slice-read-perform c = omega
+    (arith, c .before .before .before .before .before .before .before .before .before .before .before .before .pre .1 .count)
 
 mul-perform : tie.Need-mul-perform Inv-loop μ-loop
 mul-perform c = search needs
 
 shared-slice-read-perform-2 : tie.Need-shared-slice-read-perform-2 Inv-loop μ-loop
-shared-slice-read-perform-2 c = omega (arith, c .before .before .before .before .before .before .before .before .before .before .before .before .before .pre .1 .paired)
+shared-slice-read-perform-2 c = omega
+    (arith, c .before .before .before .before .before .before .before .before .before .before .before .before .before .pre .1 .paired)
 
 perform-requires : tie.Need-perform-requires Inv-loop μ-loop
 perform-requires c κs =
@@ -101,7 +101,8 @@ perform-requires c κs =
     let a = c .before .before .before .before .before .before .before .before .before .before .before .before .before .args in
     let u = c .before .before .before .before .before .before .before .before .before .before .before .before .before .pre .1 in
     let al = h .before .allowance in
-    let limits = memory-limits (a .capacity) (a .store .now) (a .lengths .now) (c .before .before .before .before .before .before .before .before .before .before .before .before .before .pre .0) in
+    let limits = memory-limits (a .capacity) (a .store .now) (a .lengths .now)
+    (c .before .before .before .before .before .before .before .before .before .before .before .before .before .pre .0) in
     let r = h .loop .inv in
     let i = h .loop .here - 1000000 - 1 in (
       held-sized (r .held) (omega (arith, limits .0, r .counts)) (limits .1),
@@ -126,14 +127,20 @@ same-length-6 c = search needs
 returns-3 : tie.Need-returns-3 Inv-loop μ-loop
 returns-3 c =
     let h = c .before .before .before .before .before .before .before .before .before .before .before .before .before .before in
-    let a = c .before .before .before .before .before .before .before .before .before .before .before .before .before .before .before .before .before .before .before .before .args in
-    let u = c .before .before .before .before .before .before .before .before .before .before .before .before .before .before .before .before .before .before .before .before .pre .1 in
+    let a = c .before .before .before .before .before .before .before .before .before .before .before .before .before .before .before
+    .before .before .before .before .before .args in
+    let u = c .before .before .before .before .before .before .before .before .before .before .before .before .before .before .before
+    .before .before .before .before .before .pre .1 in
     let al = h .before .allowance in
     let r = h .loop .inv in
     let q = c .before .before .before .before .before .before .perform in
     running-full (a .capacity) (a .store .now) (a .lengths .now) (a .kinds .now) (a .operands .now) (a .from) (a .steps) (a .budget)
-    (al .result) r u (c .before .before .before .before .before .before .before .before .before .before .before .before .before .loop-test .taken) (c .before .before .before .before .before .before .before .before .before .before .before .before .if1 .left) (al .ensures) (omega (arith, r .done, c .before .before .before .before .before .before .before .before .before .before .before .if2 .left))
-    (λ i k o. subst (λ (x : Step). Performed (a .capacity) (r .registers) (h .loop .here) i x (q .last .0) (q .last .1 .0)) (c .enum-told .given .1)
+    (al .result) r u (c .before .before .before .before .before .before .before .before .before .before .before .before
+    .before .loop-test .taken)
+    (c .before .before .before .before .before .before .before .before .before .before .before .before .if1 .left) (al .ensures)
+    (omega (arith, r .done, c .before .before .before .before .before .before .before .before .before .before .before .if2 .left))
+    (λ i k o. subst (λ (x : Step). Performed (a .capacity) (r .registers) (h .loop .here) i x (q .last .0) (q .last .1 .0))
+    (c .enum-told .given .1)
     (q .ensures (r .registers) i k o (r .held)))
 
 add-k : tie.Need-add-k Inv-loop μ-loop
@@ -145,14 +152,25 @@ loop-less c = search needs
 loop-again : tie.Need-loop-again Inv-loop μ-loop
 loop-again c =
     let h = c .before .before .before .before .before .before .before .before .before .before .before .before .before .before .before in
-    let a = c .before .before .before .before .before .before .before .before .before .before .before .before .before .before .before .before .before .before .before .before .before .args in
-    let u = c .before .before .before .before .before .before .before .before .before .before .before .before .before .before .before .before .before .before .before .before .before .pre .1 in
+    let a = c .before .before .before .before .before .before .before .before .before .before .before .before .before .before .before
+    .before .before .before .before .before .before .args in
+    let u = c .before .before .before .before .before .before .before .before .before .before .before .before .before .before .before
+    .before .before .before .before .before .before .pre .1 in
     let al = h .before .allowance in
     let r = h .loop .inv in
     let q = c .before .before .before .before .before .before .before .perform in
     running-step (a .capacity) (a .store .now) (a .lengths .now) (a .kinds .now) (a .operands .now) (a .from) (a .steps) (a .budget)
-    (al .result) r u (c .before .before .before .before .before .before .before .before .before .before .before .before .before .before .loop-test .taken) (c .before .before .before .before .before .before .before .before .before .before .before .before .before .if1 .left) (al .ensures) (omega (arith, r .done, c .before .before .before .before .before .before .before .before .before .before .before .before .if2 .left)) (c .before .there .given .0 .0)
-    (λ i k o. subst (λ (x : Step). Performed (a .capacity) (r .registers) (h .loop .here) i x (q .last .0) (q .last .1 .0)) (c .before .there .given .1)
+    (al .result) r u (c .before .before .before .before .before .before .before .before .before .before .before .before .before
+    .before .loop-test .taken)
+    (c .before .before .before .before .before .before .before .before .before .before .before .before .before .if1 .left) (al .ensures)
+    (omega (
+      arith,
+      r .done,
+      c .before .before .before .before .before .before .before .before .before .before .before .before .if2 .left,
+    ))
+    (c .before .there .given .0 .0)
+    (λ i k o. subst (λ (x : Step). Performed (a .capacity) (r .registers) (h .loop .here) i x (q .last .0) (q .last .1 .0))
+    (c .before .there .given .1)
     (q .ensures (r .registers) i k o (r .held)))
     (u .count) (q .kept .0) (q .kept .1 .0)
 
@@ -168,7 +186,8 @@ returns-4 c =
     let a = c .before .before .before .before .before .before .before .args in
     let u = c .before .before .before .before .before .before .before .pre .1 in
     let al = h .before .allowance in
-    running-ended (a .capacity) (a .store .now) (a .lengths .now) (a .kinds .now) (a .operands .now) (a .from) (a .steps) (a .budget) (al .result) (h .loop .inv) u Strayed
+    running-ended (a .capacity) (a .store .now) (a .lengths .now) (a .kinds .now) (a .operands .now) (a .from) (a .steps) (a .budget)
+    (al .result) (h .loop .inv) u Strayed
     (below-strayed (length (a .kinds .now)) (h .loop .here) (c .loop-test .left))
 
 pub run-inside-spec : {M : Type 1} → statement M

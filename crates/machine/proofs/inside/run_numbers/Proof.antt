@@ -1,4 +1,5 @@
-use mathlib.Core.Path.{_≡_, refl, sym, ap, _∙_, subst}
+-- `run_numbers` meets its contract: from outside nothing is done, and from inside the run is that of `run_inside`.
+use mathlib.Core.Path.{_≡_, ap, _∙_, subst}
 use Prim.Native.Nat.{ℕ, _+_, _≤_}
 use native.Mathlib.Omega.{arith}
 use mir.Facts.{toZ-ofZ}
@@ -13,20 +14,16 @@ use Rattle.word.specs.Answers.{zipped}
 use Rattle.machine.specs.Steps.{bias, number-of}
 use Rattle.machine.specs.Inside.{Stopped, lent, run-from}
 use Rattle.machine.specs.Calls.{memory, position}
-use Rattle.machine.proofs.Whole.{outside-low, outside-high, lent-count, lent-good, whole-outside, whole-is, whole-count, whole-stopped}
+use Rattle.machine.proofs.Whole.{outside-low, outside-high, lent-count, lent-good}
+use Rattle.machine.proofs.Whole.{whole-outside, whole-is, whole-count, whole-stopped}
 use borrow.Author.Needs.{needs}
 use Rattle.machine.proofs.inside.run_numbers.Statement.{statement}
 use Rattle.machine.proofs.inside.run_numbers.Tie as tie
-use Rattle.machine.proofs.inside.run_numbers.Reads as reads
-use Rattle.machine.proofs.inside.run_numbers.Lts as lts
-use Rattle.machine.proofs.effect.number.Reads as number-reads
-use Rattle.machine.proofs.effect.place_of.Reads as place-of-reads
-use Rattle.machine.proofs.inside.run_inside.Reads as run-inside-reads
-use Rattle.machine.proofs.inside.strayed.Reads as strayed-reads
 
 -- what `number` returns, of the place itself
 is : (c : tie.After-number) → c .number .result ≡ number-of (c .before .before .before .before .before .before .args .at .place)
-is c = c .number .ensures ∙ ap number-of (toZ-ofZ {w = w32} {z = c .before .before .before .before .before .before .args .at .place} (record { sfits = c .before .struct-told .given .0 .1 }))
+is c = c .number .ensures ∙ ap number-of (toZ-ofZ {w = w32} {z = c .before .before .before .before .before .before .args .at .place}
+    (record { sfits = c .before .struct-told .given .0 .1 }))
 
 steps-fit : (c : tie.After-struct-told) → c .before .before .before .before .before .args .at .steps ≤ last-count
 steps-fit c = omega (arith, c .struct-told .given .1 .0 .1)
@@ -42,7 +39,8 @@ returns c =
     let a = c .before .before .before .before .before .before .before .before .args in
     let p = c .before .before .before .before .before .before .before .before .pre in
     let low = outside-low (length (a .kinds .now)) (a .at .place) (omega (arith, is (c .before .before), c .before .if1 .taken)) in
-    rw (c .strayed .ensures) (whole-outside (a .m) (a .store .now) (a .lengths .now) (p .0) (a .kinds .now) (a .operands .now) (p .1) (a .at) (a .budget) low)
+    rw (c .strayed .ensures) (whole-outside (a .m) (a .store .now) (a .lengths .now) (p .0) (a .kinds .now) (a .operands .now) (p .1)
+    (a .at) (a .budget) low)
 
 cast-if2 : tie.Need-cast-if2
 cast-if2 c = search needs
@@ -57,8 +55,10 @@ returns-2 : tie.Need-returns-2
 returns-2 c =
     let a = c .before .before .before .before .before .before .before .before .before .args in
     let p = c .before .before .before .before .before .before .before .before .before .pre in
-    let high = outside-high (length (a .kinds .now)) (a .at .place) (omega (arith, is (c .before .before .before), c .before .if2 .taken)) in
-    rw (c .strayed2 .ensures) (whole-outside (a .m) (a .store .now) (a .lengths .now) (p .0) (a .kinds .now) (a .operands .now) (p .1) (a .at) (a .budget) high)
+    let high = outside-high (length (a .kinds .now)) (a .at .place)
+    (omega (arith, is (c .before .before .before), c .before .if2 .taken)) in
+    rw (c .strayed2 .ensures) (whole-outside (a .m) (a .store .now) (a .lengths .now) (p .0) (a .kinds .now) (a .operands .now) (p .1)
+    (a .at) (a .budget) high)
 
 add-run-inside : tie.Need-add-run-inside
 add-run-inside c = search needs
@@ -73,7 +73,8 @@ run-inside-requires c κs =
 -- what the run from inside returns, of the whole run
 stopped : (c : tie.After-run-inside)
     → let a = c .before .before .before .before .before .before .before .before .before .before .before .args in
-    let o = run-word (instructions (zipped (a .kinds .now) (a .operands .now))) (memory (a .m) (a .store .now) (a .lengths .now)) (position (a .at)) (a .budget) in
+    let o = run-word (instructions (zipped (a .kinds .now) (a .operands .now))) (memory (a .m) (a .store .now) (a .lengths .now))
+    (position (a .at)) (a .budget) in
     Stopped (a .m .capacity) o (c .run-inside .result) (c .run-inside .last .0) (c .run-inside .last .1 .0)
 stopped c =
     let a = c .before .before .before .before .before .before .before .before .before .before .before .args in
@@ -81,7 +82,8 @@ stopped c =
     let n = is (c .before .before .before .before .before) in
     let first : 1 ≤ number-of (a .at .place) = omega (arith, n, c .before .before .before .before .if1 .left) in
     subst (λ (o : Outcome State). Stopped (a .m .capacity) o (c .run-inside .result) (c .run-inside .last .0) (c .run-inside .last .1 .0))
-    (ap (λ (k : ℕ). run-from (a .kinds .now) (a .operands .now) (lent (a .m .capacity) (a .store .now) (a .lengths .now)) (bias + k) (a .at .steps) (a .budget)) n
+    (ap (λ (k : ℕ). run-from (a .kinds .now) (a .operands .now) (lent (a .m .capacity) (a .store .now) (a .lengths .now)) (bias + k)
+    (a .at .steps) (a .budget)) n
     ∙ whole-is (a .m) (a .store .now) (a .lengths .now) (p .0) (a .kinds .now) (a .operands .now) (p .1) (a .at) (a .budget) first)
     (c .run-inside .ensures)
 
@@ -90,9 +92,12 @@ place-of-requires c κs = search needs
 
 add-t18 : tie.Need-add-t18
 add-t18 c =
-    let a = c .before .before .before .before .before .before .before .before .before .before .before .before .before .before .before .before .args in
-    let p = c .before .before .before .before .before .before .before .before .before .before .before .before .before .before .before .before .pre in
-    let most = whole-count (a .m) (a .store .now) (a .lengths .now) (p .0) (a .kinds .now) (a .operands .now) (p .1) (a .at) (a .budget) (steps-fit (c .before .before .before .before .before .before .before .before .before .before .before)) in
+    let a = c .before .before .before .before .before .before .before .before .before .before .before .before .before .before .before
+    .before .args in
+    let p = c .before .before .before .before .before .before .before .before .before .before .before .before .before .before .before
+    .before .pre in
+    let most = whole-count (a .m) (a .store .now) (a .lengths .now) (p .0) (a .kinds .now) (a .operands .now) (p .1) (a .at) (a .budget)
+    (steps-fit (c .before .before .before .before .before .before .before .before .before .before .before)) in
     omega (arith, most, stopped (c .before .before .before .before .before) .steps)
 
 same-length : tie.Need-same-length
@@ -103,11 +108,15 @@ same-length-2 c = search needs
 
 returns-3 : tie.Need-returns-3
 returns-3 c =
-    let a = c .before .before .before .before .before .before .before .before .before .before .before .before .before .before .before .before .args in
-    let p = c .before .before .before .before .before .before .before .before .before .before .before .before .before .before .before .before .pre in
+    let a = c .before .before .before .before .before .before .before .before .before .before .before .before .before .before .before
+    .before .args in
+    let p = c .before .before .before .before .before .before .before .before .before .before .before .before .before .before .before
+    .before .pre in
     let done = c .before .before .before .before .before .run-inside in
-    whole-stopped (a .m) (a .store .now) (a .lengths .now) (p .0) (a .kinds .now) (a .operands .now) (p .1) (a .at) (a .budget) (done .result) _ _ _
-    (toZ-ofZ (record { sfits = c .place-of .ok }) ∙ c .place-of .ensures) (done .kept .1 .0) (stopped (c .before .before .before .before .before))
+    whole-stopped (a .m) (a .store .now) (a .lengths .now) (p .0) (a .kinds .now) (a .operands .now) (p .1) (a .at) (a .budget)
+    (done .result) _ _ _
+    (toZ-ofZ (record { sfits = c .place-of .ok }) ∙ c .place-of .ensures) (done .kept .1 .0)
+    (stopped (c .before .before .before .before .before))
 
 pub run-numbers-spec : {M : Type 1} → statement M
 run-numbers-spec =

@@ -1,3 +1,4 @@
+-- `first_lacking` meets its contract: what the entries from `i` on answer is the answer.
 use mathlib.Core.Path.{_≡_, refl, sym, ap, _∙_}
 use Prim.Native.Nat.{_-_, _≤_}
 use lib.ListN.{length, drop}
@@ -8,9 +9,6 @@ use Rattle.machine.proofs.Rule15.{lack-here, lack-later, lack-none}
 use borrow.Author.Needs.{needs}
 use Rattle.machine.proofs.lacking.first_lacking.Statement.{statement}
 use Rattle.machine.proofs.lacking.first_lacking.Tie as tie
-use Rattle.machine.proofs.lacking.first_lacking.Reads as reads
-use Rattle.machine.proofs.lacking.first_lacking.Lts as lts
-use Rattle.machine.proofs.lacking.lacks.Reads as lacks-reads
 
 abbrev Inv-loop : tie.InvT-loop
 Inv-loop registers kinds operands i₀ i =

@@ -1,9 +1,7 @@
+-- `lacks` meets its contract, by the kinds that name a register.
 use borrow.Author.Tests.{lt-ltb, le-ltb, ne-eqb}
-use borrow.Author.Needs.{needs}
 use Rattle.machine.proofs.lacking.lacks.Statement.{statement}
 use Rattle.machine.proofs.lacking.lacks.Tie as tie
-use Rattle.machine.proofs.lacking.lacks.Reads as reads
-use Rattle.machine.proofs.lacking.lacks.Lts as lts
 
 returns : tie.Need-returns
 returns c = rw (lt-ltb _ _ (c .if1 .taken))

@@ -1,3 +1,4 @@
+-- `start_of` meets its contract: the sum of the first `i` entries.
 use mathlib.Core.Path.{_≡_, refl, ap}
 use Prim.Native.Nat.{ℕ, _+_, _-_, _*_, _≤_}
 use native.Mathlib.Omega.{arith}
@@ -9,8 +10,6 @@ use Rattle.machine.proofs.Rule15.{total-more}
 use borrow.Author.Needs.{needs}
 use Rattle.machine.proofs.lacking.start_of.Statement.{statement}
 use Rattle.machine.proofs.lacking.start_of.Tie as tie
-use Rattle.machine.proofs.lacking.start_of.Reads as reads
-use Rattle.machine.proofs.lacking.start_of.Lts as lts
 
 abbrev Inv-loop : tie.InvT-loop
 Inv-loop kinds operands n i₀ start₀ i start =
@@ -38,10 +37,20 @@ cast-start-2 : tie.Need-cast-start-2 Inv-loop μ-loop
 cast-start-2 c = omega (arith, c .shared-slice-known2 .given (c .before .before .before .loop .i))
 
 add-start : tie.Need-add-start Inv-loop μ-loop
-add-start c = omega (arith, c .before .shared-slice-known .given (c .before .before .before .loop .i), c .shared-slice-known2 .given (c .before .before .before .loop .i))
+add-start c = omega (
+  arith,
+  c .before .shared-slice-known .given (c .before .before .before .loop .i),
+  c .shared-slice-known2 .given
+      (c .before .before .before .loop .i),
+)
 
 add-start-2 : tie.Need-add-start-2 Inv-loop μ-loop
-add-start-2 c = omega (arith, c .before .shared-slice-known .given (c .before .before .before .loop .i), c .shared-slice-known2 .given (c .before .before .before .loop .i))
+add-start-2 c = omega (
+  arith,
+  c .before .shared-slice-known .given (c .before .before .before .loop .i),
+  c .shared-slice-known2 .given
+      (c .before .before .before .loop .i),
+)
 
 add-i : tie.Need-add-i Inv-loop μ-loop
 add-i c = search needs
@@ -57,7 +66,13 @@ loop-again c =
     let more = total-more (a .kinds .now) (a .operands .now) (p .0) (l .i) (search needs) in (
       search needs,
       rw (add-one, more) (ap (λ (k : ℕ). k + (getD (a .operands .now) (l .i) 0 + getD (a .kinds .now) (l .i) 0)) (l .inv .1)),
-      omega (arith, l .inv .2, c .before .shared-slice-known .given (c .before .before .before .loop .i), c .shared-slice-known2 .given (c .before .before .before .loop .i)),
+      omega (
+        arith,
+        l .inv .2,
+        c .before .shared-slice-known .given (c .before .before .before .loop .i),
+        c .shared-slice-known2 .given
+            (c .before .before .before .loop .i),
+      ),
     )
 
 returns : tie.Need-returns Inv-loop μ-loop

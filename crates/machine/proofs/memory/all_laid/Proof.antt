@@ -1,3 +1,4 @@
+-- `all_laid` meets its contract: the places before register `i` are laid out.
 use borrow.Author.Tests.{not-true, not-false}
 use mathlib.Core.Path.{_≡_, sym, _∙_}
 use mathlib.Core.Bool.{true}
@@ -10,10 +11,6 @@ use Rattle.machine.proofs.Places.{place-ends, places-none, places-fail,
 use borrow.Author.Needs.{needs}
 use Rattle.machine.proofs.memory.all_laid.Statement.{statement}
 use Rattle.machine.proofs.memory.all_laid.Tie as tie
-use Rattle.machine.proofs.memory.all_laid.Reads as reads
-use Rattle.machine.proofs.memory.all_laid.Lts as lts
-use Rattle.machine.proofs.memory.laid.Reads as laid-reads
-use Rattle.machine.proofs.store.wide.Reads as wide-reads
 
 abbrev Inv-loop : tie.InvT-loop
 Inv-loop store lengths capacity i₀ i = (i ≤ length lengths) × (places-laid i capacity store lengths ≡ true)
@@ -69,7 +66,8 @@ tested : (c : tie.After-laid Inv-loop μ-loop)
 tested c =
     let a = c .before .before .before .before .before .before .before .before .args in
     let i = c .before .before .before .before .before .loop .i in
-    place-laid i (a .capacity) (getD (a .lengths .now) i 0) (a .store .now) (ends (c .before .before .before .before .before) (search needs))
+    place-laid i (a .capacity) (getD (a .lengths .now) i 0) (a .store .now) (ends (c .before .before .before .before .before)
+    (search needs))
     (rw (← c .before .before .wide .ensures) (c .laid .ensures))
 
 returns : tie.Need-returns Inv-loop μ-loop

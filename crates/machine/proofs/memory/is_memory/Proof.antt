@@ -1,3 +1,4 @@
+-- `is_memory` meets its contract: the tests of rule 10 in their order, the limits before the product.
 use mathlib.Core.Path.{sym, ap, _∙_}
 use Prim.Native.Nat.{ℕ, _*_}
 use native.Mathlib.Nat.{mul-le-mul-right}
@@ -8,9 +9,6 @@ use Rattle.machine.proofs.Rule10.{no-registers, many-registers, no-capa
 use borrow.Author.Needs.{needs}
 use Rattle.machine.proofs.memory.is_memory.Statement.{statement}
 use Rattle.machine.proofs.memory.is_memory.Tie as tie
-use Rattle.machine.proofs.memory.is_memory.Reads as reads
-use Rattle.machine.proofs.memory.is_memory.Lts as lts
-use Rattle.machine.proofs.memory.all_laid.Reads as all-laid-reads
 
 returns : tie.Need-returns
 returns c =
@@ -56,7 +54,11 @@ returns-6 c =
 all-laid-requires : tie.Need-all-laid-requires
 all-laid-requires c κs =
     let m = c .before .before .before .before .before .before .before .before .args .m in
-    record { room = c .before .if5 .left ∙ ap (λ (k : ℕ). k * m .capacity) (sym (c .if6 .left)); registers = search needs; symbols = search needs }
+    record {
+      room = c .before .if5 .left ∙ ap (λ (k : ℕ). k * m .capacity) (sym (c .if6 .left));
+      registers = search needs;
+      symbols = search needs;
+    }
 
 returns-7 : tie.Need-returns-7
 returns-7 c =

@@ -1,3 +1,4 @@
+-- `laid` meets its contract: the length, the symbols, and then the zeros decide.
 use borrow.Author.Tests.{not-true, not-false}
 use mathlib.Core.Path.{sym, _∙_}
 use lib.Seq.{length-take-le}
@@ -5,10 +6,6 @@ use Rattle.machine.proofs.Lists.{laid-short, laid-other, laid-rest}
 use borrow.Author.Needs.{needs}
 use Rattle.machine.proofs.memory.laid.Statement.{statement}
 use Rattle.machine.proofs.memory.laid.Tie as tie
-use Rattle.machine.proofs.memory.laid.Reads as reads
-use Rattle.machine.proofs.memory.laid.Lts as lts
-use Rattle.machine.proofs.memory.symbols.Reads as symbols-reads
-use Rattle.machine.proofs.memory.zeros.Reads as zeros-reads
 
 returns : tie.Need-returns
 returns c = sym (laid-short (c .before .before .args .part .now) (c .before .before .args .n) (c .if1 .taken))
@@ -41,7 +38,8 @@ zeros-requires c κs = search needs
 returns-3 : tie.Need-returns-3
 returns-3 c =
     let a = c .before .before .before .before .before .before .before .args in
-    c .zeros .ensures ∙ sym (laid-rest (a .part .now) (a .n) (search needs) (sym (c .before .before .before .symbols .ensures) ∙ not-false _ (c .before .before .if2 .left)))
+    c .zeros .ensures ∙ sym (laid-rest (a .part .now) (a .n) (search needs) (sym (c .before .before .before .symbols .ensures)
+    ∙ not-false _ (c .before .before .if2 .left)))
 
 pub laid-spec : {M : Type 1} → statement M
 laid-spec =

@@ -1,16 +1,14 @@
+-- `zeros` meets its contract: what the bytes from `i` on pass decides.
 use Prim.Native.Nat.{_≤_, _-_}
 use mathlib.Core.Path.{_≡_, refl, sym, _∙_}
 use lib.ListN.{length, drop}
 use lib.Dec.{eqb}
 use Rattle.theory.specs.Basics.{all}
-use Rattle.theory.specs.Word.{is-symbol}
 use Rattle.machine.proofs.Lists.{all-next, all-fails, all-passed}
 use borrow.Author.Tests.{eq-eqb, ne-eqb}
 use borrow.Author.Needs.{needs}
 use Rattle.machine.proofs.memory.zeros.Statement.{statement}
 use Rattle.machine.proofs.memory.zeros.Tie as tie
-use Rattle.machine.proofs.memory.zeros.Reads as reads
-use Rattle.machine.proofs.memory.zeros.Lts as lts
 
 abbrev Inv-loop : tie.InvT-loop
 Inv-loop part i₀ i = (i ≤ length part) × (all (eqb 0) part ≡ all (eqb 0) (drop i part))

@@ -1,3 +1,4 @@
+-- `append` meets its contract: the byte after the symbols lies in the register's place.
 use Prim.Native.Nat.{_+_, _*_, _<_}
 use native.Mathlib.Omega.{arith}
 use lib.ListN.{length}
@@ -6,10 +7,6 @@ use Rattle.machine.proofs.OneRegister.{held-append, held-full}
 use borrow.Author.Needs.{needs}
 use Rattle.machine.proofs.store.append.Statement.{statement}
 use Rattle.machine.proofs.store.append.Tie as tie
-use Rattle.machine.proofs.store.append.Reads as reads
-use Rattle.machine.proofs.store.append.Lts as lts
-use Rattle.machine.proofs.store.narrow.Reads as narrow-reads
-use Rattle.machine.proofs.store.wide.Reads as wide-reads
 
 mul-wide : tie.Need-mul-wide
 mul-wide c = search needs
@@ -22,7 +19,8 @@ wide-requires c κs = search needs
 
 -- the byte after the register's symbols lies in its place, and that in the store
 inside : (c : tie.Then1)
-    → c .before .before .before .before .before .args .r * c .before .before .before .before .before .args .capacity + c .before .wide .result < length (c .before .before .before .before .before .args .store .now)
+    → c .before .before .before .before .before .args .r * c .before .before .before .before .before .args .capacity + c
+    .before .wide .result < length (c .before .before .before .before .before .args .store .now)
 inside c =
     let a = c .before .before .before .before .before .args in
     let p = c .before .before .before .before .before .pre in
@@ -60,10 +58,12 @@ returns : tie.Need-returns
 returns c f x b h =
     let a = c .before .before .before .before .before .before .args in
     let n = c .before .before .wide .ensures in
-    rw (c .narrow .ensures, n, b) (held-append h (a .r) (c .before .before .before .before .before .before .pre .1) x (rw n at (c .before .if1 .taken)))
+    rw (c .narrow .ensures, n, b) (held-append h (a .r) (c .before .before .before .before .before .before .pre .1) x
+    (rw n at (c .before .if1 .taken)))
 
 returns-2 : tie.Need-returns-2
-returns-2 c f x b h = held-full h (c .before .before .before .before .before .args .r) (c .before .before .before .before .before .pre .1) x (rw (c .before .wide .ensures) at (c .if1 .left))
+returns-2 c f x b h = held-full h (c .before .before .before .before .before .args .r)
+    (c .before .before .before .before .before .pre .1) x (rw (c .before .wide .ensures) at (c .if1 .left))
 
 pub append-spec : {M : Type 1} → statement M
 append-spec =

@@ -1,3 +1,4 @@
+-- `delete_first` meets its contract: the part that is the register's place loses its first symbol.
 use mathlib.Core.Path.{_≡_, refl, sym, _∙_}
 use Prim.Native.Nat.{_+_, _-_, _*_, _≤_, _<_}
 use native.Mathlib.Omega.{arith}
@@ -7,11 +8,6 @@ use Rattle.machine.proofs.OneRegister.{held-delete, held-empty}
 use borrow.Author.Needs.{needs}
 use Rattle.machine.proofs.store.delete_first.Statement.{statement}
 use Rattle.machine.proofs.store.delete_first.Tie as tie
-use Rattle.machine.proofs.store.delete_first.Reads as reads
-use Rattle.machine.proofs.store.delete_first.Lts as lts
-use Rattle.machine.proofs.store.drop_first.Reads as drop-first-reads
-use Rattle.machine.proofs.store.narrow.Reads as narrow-reads
-use Rattle.machine.proofs.store.wide.Reads as wide-reads
 
 mul-wide : tie.Need-mul-wide
 mul-wide c = search needs
@@ -23,14 +19,17 @@ wide-requires : tie.Need-wide-requires
 wide-requires c κs = search needs
 
 -- the register's place lies in the store
-ends : (c : tie.After-wide) → c .before .before .before .before .args .r * c .before .before .before .before .args .capacity + c .before .before .before .before .args .capacity ≤ length (c .before .before .before .before .args .store .now)
+ends : (c : tie.After-wide)
+    → c .before .before .before .before .args .r * c .before .before .before .before .args .capacity + c .before .before .before
+    .before .args .capacity ≤ length (c .before .before .before .before .args .store .now)
 ends c =
     let a = c .before .before .before .before .args in
     let p = c .before .before .before .before .pre in
     omega (arith, place-ends (a .r) (length (a .lengths .now)) (a .capacity) (p .1), p .0 .room)
 
 returns : tie.Need-returns
-returns c f h = held-empty h (c .before .before .before .before .before .args .r) (c .before .before .before .before .before .pre .1) 0 (sym (c .before .wide .ensures) ∙ c .if1 .taken) refl
+returns c f h = held-empty h (c .before .before .before .before .before .args .r) (c .before .before .before .before .before .pre .1) 0
+    (sym (c .before .wide .ensures) ∙ c .if1 .taken) refl
 
 mul-from : tie.Need-mul-from
 mul-from c = omega (arith, ends (c .before))
@@ -39,7 +38,12 @@ add-to : tie.Need-add-to
 add-to c = omega (arith, ends (c .before))
 
 slice-read-b : tie.Need-slice-read-b
-slice-read-b c = omega (arith, ends (c .before .before), c .before .before .wide .ensures, c .before .before .before .before .before .before .pre)
+slice-read-b c = omega (
+  arith,
+  ends (c .before .before),
+  c .before .before .wide .ensures,
+  c .before .before .before .before .before .before .pre,
+)
 
 sub-drop-first : tie.Need-sub-drop-first
 sub-drop-first c = search needs
@@ -78,7 +82,8 @@ returns-2 c f h =
     let d : a .r * a .capacity + a .capacity - a .r * a .capacity ≡ a .capacity = omega arith in
     let some : 0 < getD (a .lengths .now) (a .r) 0 = omega (arith, n, c .before .before .before .before .before .before .if1 .left) in
     rw (d, c .narrow .ensures, n)
-    (held-delete h (a .r) (c .before .before .before .before .before .before .before .before .before .before .before .pre .1) _ (c .before .before .before .drop-first .last .0) some refl (rw (d, n) at (c .before .before .before .drop-first .ensures)))
+    (held-delete h (a .r) (c .before .before .before .before .before .before .before .before .before .before .before .pre .1) _
+    (c .before .before .before .drop-first .last .0) some refl (rw (d, n) at (c .before .before .before .drop-first .ensures)))
 
 pub delete-first-spec : {M : Type 1} → statement M
 delete-first-spec =

@@ -1,3 +1,4 @@
+-- `drop_first` meets its contract: what `shift_down` leaves, and byte 0 after it.
 use mathlib.Core.Path.{ap}
 use mathlib.Core.List.{List}
 use Prim.Native.Nat.{ℕ, _-_}
@@ -5,9 +6,6 @@ use lib.ListN.{set}
 use borrow.Author.Needs.{needs}
 use Rattle.machine.proofs.store.drop_first.Statement.{statement}
 use Rattle.machine.proofs.store.drop_first.Tie as tie
-use Rattle.machine.proofs.store.drop_first.Reads as reads
-use Rattle.machine.proofs.store.drop_first.Lts as lts
-use Rattle.machine.proofs.store.shift_down.Reads as shift-down-reads
 
 sub-shift-down : tie.Need-sub-shift-down
 sub-shift-down c = search needs

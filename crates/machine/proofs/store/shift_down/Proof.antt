@@ -1,5 +1,6 @@
+-- `shift_down` meets its contract: the first `i` bytes are taken from the next place.
 use mathlib.Core.Path.{_≡_, refl}
-use Prim.Native.Nat.{_≤_, _<_, _-_, _+_}
+use Prim.Native.Nat.{_≤_, _-_}
 use native.Mathlib.Omega.{arith}
 use borrow.Author.Needs.{needs}
 use lib.ListN.{length, length-set}
@@ -7,8 +8,6 @@ use Rattle.machine.specs.Held.{shifted}
 use Rattle.machine.proofs.Shift.{shifted-none, shifted-more}
 use Rattle.machine.proofs.store.shift_down.Statement.{statement}
 use Rattle.machine.proofs.store.shift_down.Tie as tie
-use Rattle.machine.proofs.store.shift_down.Reads as reads
-use Rattle.machine.proofs.store.shift_down.Lts as lts
 
 abbrev Inv-loop : tie.InvT-loop
 Inv-loop part₀ n i₀ part i = (i ≤ n) × (length part ≡ length part₀) × (part ≡ shifted i part₀)
@@ -38,7 +37,8 @@ loop-again : tie.Need-loop-again Inv-loop μ-loop
 loop-again c = (
   omega arith,
   simp length-set (c .before .before .loop .inv .1),
-  rw (c .before .before .loop .inv .2) (shifted-more (c .before .before .loop .i) (c .before .before .before .args .part .now) (omega arith)),
+  rw (c .before .before .loop .inv .2) (shifted-more (c .before .before .loop .i) (c .before .before .before .args .part .now)
+      (omega arith)),
 )
 
 same-length : tie.Need-same-length Inv-loop μ-loop
