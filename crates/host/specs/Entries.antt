@@ -25,6 +25,11 @@ pub record ReadsProgram (text : Bytes) (list : List ℕ) (r : ℕ) (list′ : Li
   pub result : r ≡ packed commands (Programs.read-into list text)
   pub list-after : list′ ≡ lent-after list (mapped list-of (Programs.read-into list text))
 
+-- A list written as a text into lent bytes: the bytes
+pub record WritesProgram (list : List ℕ) (text : Bytes) (r : ℕ) (text′ : Bytes) : Type 0 where
+  pub result : r ≡ packed count (Programs.write-into text list)
+  pub text-after : text′ ≡ lent-after text (Programs.write-into text list)
+
 -- A program handed in as A, translated into a lent word: the word's instructions and symbols
 pub record Translates (A : Answer (List Command)) (word : Bytes) (r : ℕ) (word′ : Bytes) : Type 0 where
   pub result : r ≡ packed sizes (translate-into word A)

@@ -8,7 +8,7 @@ use machine::Position;
 ghost use mathlib.Core.Path.{_≡_};
 ghost use Rattle.theory.specs.TurnedDown.{read-text, read-list};
 ghost use Rattle.word.specs.Answers.{zipped};
-ghost use Rattle.host.specs.Entries.{ReadsProgram, Translates, RunsSource, ReadsWord, WritesWord, RunsWord, lent, stands-at};
+ghost use Rattle.host.specs.Entries.{ReadsProgram, WritesProgram, Translates, RunsSource, ReadsWord, WritesWord, RunsWord, lent, stands-at};
 
 // The version of these entries.
 #[no_mangle]
@@ -24,6 +24,14 @@ pub extern "C" fn mudzkvopi_read_program(text: &[u8], list: &mut [u8]) -> u64
     ensures { λ r. ⌜ ReadsProgram (now (text .entry)) (now (list .entry)) r (now (list .exit)) ⌝ }
 {
     packing::program_read(program::read(text, &mut *list))
+}
+
+// A list written as a text into lent bytes: rules 3 to 8, then 19.
+#[no_mangle]
+pub extern "C" fn mudzkvopi_write_program(list: &[u8], text: &mut [u8]) -> u64
+    ensures { λ r. ⌜ WritesProgram (now (list .entry)) (now (text .entry)) r (now (text .exit)) ⌝ }
+{
+    packing::program_written(program::write(list, &mut *text))
 }
 
 // A program handed in as text, translated into a lent word: rules 1 to 8, then 19.

@@ -1,8 +1,8 @@
 -- The commands of an accepted list that are left to write, from a place of it on, and what was written of them.
 use mathlib.Core.Path.{_≡_, refl, sym, ap, _∙_}
-use mathlib.Core.Option.{Option, none, some}
+use mathlib.Core.Option.{none, some}
 use mathlib.Core.List.{List, [], _∷_, _++_, map, append-assoc, append-nil}
-use Prim.Native.Nat.{ℕ, suc, _+_, _<_, _≤_}
+use Prim.Native.Nat.{ℕ, _+_, _<_, _≤_}
 use native.Mathlib.Nat.{zero-add}
 use native.Mathlib.Omega.{arith}
 use borrow.Author.Tests.{leb-true}
@@ -11,7 +11,8 @@ use lib.ListN.{length, getD, drop, length-append, length-drop}
 use lib.Seq.{sets}
 use Rattle.theory.specs.Basics.{present}
 use Rattle.theory.specs.Text.{Bytes, LF}
-use Rattle.theory.specs.ProgramText.{clear, increment, copy, loop, while, Command, plain, opens, closes, spelling, text-of, numbers, command-of, listed}
+use Rattle.theory.specs.ProgramText.{clear, increment, copy, loop, while, Command, plain, opens, closes, spelling, text-of, numbers}
+use Rattle.theory.specs.ProgramText.{command-of, listed}
 use Rattle.theory.specs.TurnedDown.{rule-1, program-fault, text-fault}
 use Rattle.theory.specs.Claims.{Accepted, EachOf}
 use Rattle.theory.proofs.Faults.{none-first, unless-none}
@@ -41,7 +42,8 @@ module _ (l : List ℕ) (e : program-fault (listed l) ≡ none) where
   unfolding text-fault rule-1
   text-short =
       let t : Bytes = text-of (present (listed l)) in
-      leb-true (length t) 16384 (unless-none (leb (length t) 16384) 1 0 (none-first (rule-1 t) _ (text-accepted (present (listed l)) accepted)))
+      leb-true (length t) 16384 (unless-none (leb (length t) 16384) 1 0
+      (none-first (rule-1 t) _ (text-accepted (present (listed l)) accepted)))
 
 -- The next command, and those after it
 pub record Next (l : List ℕ) (m : ℕ) (r : Left l m) : Type 0 where
@@ -75,7 +77,8 @@ module _ {l : List ℕ} {m : ℕ} where
       j : ℕ
       j = getD l (m + 2) 0
 
-      go : (p : List Command) → EachOf LowIndices p → r .commands ≡ p → map some (r .commands) ≡ command-of k i j ∷ listed (drop (m + 3) l) → Next l m r
+      go : (p : List Command) → EachOf LowIndices p → r .commands ≡ p
+          → map some (r .commands) ≡ command-of k i j ∷ listed (drop (m + 3) l) → Next l m r
       go [] o e f = let z : _≡_ {A = ℕ} 0 1 = cc (ap (map some) e) in absurd (omega arith)
       go (c ∷ p) o e f =
           let g : some c ∷ map some p ≡ command-of k i j ∷ listed (drop (m + 3) l) = sym (ap (map some) e) ∙ f in
@@ -117,7 +120,8 @@ unfolding all-left
 size-start l e = record { left = all-left l e; short = text-short l e; sum = zero-add (length (text-of (present (listed l)))) }
 
 module _ {l : List ℕ} {m size : ℕ} (h : SizeFrom l m size) where
-  pub size-next : (more : m + 2 < length l) (n : ℕ) → n ≡ length (command-line (getD l m 0) (getD l (m + 1) 0) (getD l (m + 2) 0)) → SizeFrom l (m + 3) (size + n)
+  pub size-next : (more : m + 2 < length l) (n : ℕ) → n ≡ length (command-line (getD l m 0) (getD l (m + 1) 0) (getD l (m + 2) 0))
+      → SizeFrom l (m + 3) (size + n)
   size-next more n e =
       let x = next (h .left) more in
       let t : Bytes = command-line (getD l m 0) (getD l (m + 1) 0) (getD l (m + 2) 0) in
@@ -140,7 +144,8 @@ pub record TextFrom (l before after : List ℕ) (m at : ℕ) : Type 0 where
   pub whole : written ++ text-of (left .commands) ≡ text-of (present (listed l))
   pub put : Put written 0 before after at
 
-pub text-start : (l before : List ℕ) → program-fault (listed l) ≡ none → length (text-of (present (listed l))) ≤ length before → TextFrom l before before 0 0
+pub text-start : (l before : List ℕ) → program-fault (listed l) ≡ none → length (text-of (present (listed l))) ≤ length before
+    → TextFrom l before before 0 0
 unfolding all-left
 text-start l before e h =
     record { left = all-left l e; room = h; same = refl; written = []; whole = refl; put = record { ended = refl; wrote = refl } }
@@ -153,7 +158,17 @@ module _ {l before after : List ℕ} {m at : ℕ} (h : TextFrom l before after m
   text-room more =
       let x = next (h .left) more in
       let rest : Bytes = text-of (x .later .commands) in
-      omega (arith, h .room, h .same, h .put .ended, ap length (h .whole), length-append (h .written) (text-of (h .left .commands)), ap length (text-next (h .left) x), length-append here rest)
+      omega (
+        arith,
+        h .room,
+        h .same,
+        h .put .ended,
+        ap length (h .whole),
+        length-append (h .written) (text-of (h .left .commands)),
+        ap
+            length (text-next (h .left) x),
+        length-append here rest,
+      )
 
   pub text-more : (more : m + 2 < length l) {after′ : List ℕ} {at′ : ℕ} → length after′ ≡ length after → Put here at after after′ at′
       → TextFrom l before after′ (m + 3) at′

@@ -2,8 +2,8 @@
 use mathlib.Core.Path.{_≡_, refl, sym, ap, _∙_}
 use mathlib.Core.Bool.{Bool, true, false, cond, false≢true, true≢false}
 use mathlib.Core.Option.{Option, none, some, Option·map}
-use mathlib.Core.List.{List, [], _∷_, _++_}
-use Prim.Native.Nat.{ℕ, zero, suc, _+_, _-_, _<_, _≤_}
+use mathlib.Core.List.{[], _∷_, _++_}
+use Prim.Native.Nat.{ℕ, suc, _+_, _-_, _<_, _≤_}
 use native.Mathlib.Omega.{arith}
 use lib.Dec.{eqb}
 use borrow.Author.Tests.{eq-eqb, ne-eqb}
@@ -17,7 +17,8 @@ use Rattle.theory.proofs.Texts.{same-iff}
 use Rattle.program.specs.declared.line.Numbers.{Numbers}
 use Rattle.program.specs.declared.line.Named.{Named}
 use Rattle.program.specs.declared.line.Named.the-variants.{To, No}
-use Rattle.program.specs.Lines.{limited, is-some, found-in, no-numbers, of-kind, numbered, from-name, clears, increments, copies, assignment}
+use Rattle.program.specs.Lines.{limited, is-some, found-in, no-numbers, of-kind, numbered, from-name, clears, increments, copies}
+use Rattle.program.specs.Lines.{assignment}
 
 -- What follows a word
 
@@ -38,7 +39,8 @@ after-is [] u e = (refl, omega arith)
 after-is (b ∷ w) [] e = absurd (false≢true e)
 after-is (b ∷ w) (c ∷ u) e = go (eqb b c) e (after-is w u)
   where
-    go : (x : Bool) → is-some (cond x (after w u) none) ≡ true → (is-some (after w u) ≡ true → (after w u ≡ some (drop (length w) u)) × (length w ≤ length u))
+    go : (x : Bool) → is-some (cond x (after w u) none) ≡ true
+        → (is-some (after w u) ≡ true → (after w u ≡ some (drop (length w) u)) × (length w ≤ length u))
         → (cond x (after w u) none ≡ some (drop (length w) u)) × (suc (length w) ≤ suc (length u))
     go true f r = (r f .0, omega (arith, r f .1))
     go false f r = absurd (false≢true f)
@@ -60,7 +62,8 @@ name-missing n u e f = go (name u) (sym e ∙ f)
     go none g = refl
     go (some x) g = cc
 
-pub name-there : (s : Bytes) (at : ℕ) {end index : ℕ} {v : Named} → at ≤ length s → v ≡ found-in (length s) (name (drop at s)) → v ≡ To end index
+pub name-there : (s : Bytes) (at : ℕ) {end index : ℕ} {v : Named} → at ≤ length s → v ≡ found-in (length s) (name (drop at s))
+    → v ≡ To end index
     → NameAt s at end index
 name-there s at {end} {index} h e f = go (name (drop at s)) refl (sym e ∙ f)
   where
@@ -94,7 +97,8 @@ module _ (k : ℕ) (front back s : Bytes) where
     pub pair-front : length front ≤ length s
     pair-front = after-is front s e .1
 
-    pub pair-no-name : {v : Named} → v ≡ found-in (length s) (name (drop (length front) s)) → v ≡ No → no-numbers ≡ of-kind k (around front back s)
+    pub pair-no-name : {v : Named} → v ≡ found-in (length s) (name (drop (length front) s)) → v ≡ No
+        → no-numbers ≡ of-kind k (around front back s)
     unfolding around
     pair-no-name f g = rw (after-is front s e .0, name-missing (length s) (drop (length front) s) f g)
 
@@ -120,7 +124,8 @@ names-alike i j false e = ne-eqb i j (λ f. true≢false (sym (same-iff (name-of
 pub cut-out : {s : Bytes} {at end index : ℕ} → at ≤ length s → (n : NameAt s at end index) → drop at (take end s) ≡ name-of (n .value)
 cut-out {s} {at} {end} h n =
     let m : ℕ = length (name-of (n .value)) in
-    let front : take m (drop at s) ≡ name-of (n .value) = ap (take m) (sym (n .spelled)) ∙ take-append-seam (name-of (n .value)) (drop end s) in
+    let front : take m (drop at s) ≡ name-of (n .value) = ap (take m) (sym (n .spelled))
+    ∙ take-append-seam (name-of (n .value)) (drop end s) in
     rw (← n .size, take-add at m s, drop-at (take at s) (take m (drop at s)) at (length-take-le at s h), front)
 
 pub name-room : {s : Bytes} {at end index : ℕ} → NameAt s at end index → at ≤ length (take end s)
@@ -169,7 +174,8 @@ module _ (s : Bytes) where
     pub first-name : take end s ≡ name-of (n .value)
     first-name = cut-out (omega arith) n
 
-    pub assignment-clear : same (bytes " <- 0") (drop end s) ≡ true → record { kind = 1; index = index; source = 0 } ≡ numbered (assignment s)
+    pub assignment-clear : same (bytes " <- 0") (drop end s) ≡ true
+        → record { kind = 1; index = index; source = 0 } ≡ numbered (assignment s)
     unfolding assignment around after
     assignment-clear e = rw (n .is, e, n .number)
 
@@ -181,7 +187,8 @@ module _ (s : Bytes) where
       pub assignment-room : is-some (after (bytes " <- ") (drop end s)) ≡ true → end + 4 ≤ length s
       assignment-room e = omega (arith, after-is (bytes " <- ") (drop end s) e .1, length-drop end s, n .within)
 
-      pub assignment-from : is-some (after (bytes " <- ") (drop end s)) ≡ true → numbered (from-name (n .value) (drop (end + 4) s)) ≡ numbered (assignment s)
+      pub assignment-from : is-some (after (bytes " <- ") (drop end s)) ≡ true
+          → numbered (from-name (n .value) (drop (end + 4) s)) ≡ numbered (assignment s)
       unfolding assignment around assigns from-name
       assignment-from e = rw (after-nothing s, n .is, c, after-is (bytes " <- ") (drop end s) e .0, drop-drop 4 end s)
 
@@ -275,5 +282,6 @@ module _ (s : Bytes) {a : Numbers} (ea : a ≡ numbered (assignment s)) where
         pub numbers-d : (d .kind ≡ 0 → ⊥) → d ≡ numbered (command s)
         numbers-d n = numbers-first (whiles s) _ is-d n ∙ sym past-c
 
-        pub numbers-e : d .kind ≡ 0 → {e : Numbers} → e ≡ of-kind 7 (around (bytes "endwhile ") (bytes " != 0") s) → e ≡ numbered (command s)
+        pub numbers-e : d .kind ≡ 0 → {e : Numbers} → e ≡ of-kind 7 (around (bytes "endwhile ") (bytes " != 0") s)
+            → e ≡ numbered (command s)
         numbers-e zd ee = ee ∙ mapped-7 (around (bytes "endwhile ") (bytes " != 0") s) ∙ sym (past-c ∙ numbers-next (whiles s) _ is-d zd)

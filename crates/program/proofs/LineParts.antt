@@ -1,9 +1,9 @@
 -- Laws of what stands at a place of a line: digits, names and words.
 use mathlib.Core.Path.{_≡_, refl, sym, ap, ap₂, _∙_}
 use mathlib.Core.Bool.{Bool, true, false, cond, _&&_}
-use mathlib.Core.Option.{Option, none, some}
-use mathlib.Core.List.{List, [], _∷_, _++_}
-use Prim.Native.Nat.{ℕ, zero, suc, _+_, _-_, _*_, _<_, _≤_, min}
+use mathlib.Core.Option.{none}
+use mathlib.Core.List.{[], _∷_}
+use Prim.Native.Nat.{ℕ, suc, _+_, _-_, _*_, _<_, _≤_}
 use native.Mathlib.Nat.{add-zero}
 use native.Mathlib.Numerals.{add-one}
 use native.Mathlib.Omega.{arith}
@@ -51,13 +51,15 @@ module _ {s : Bytes} {at end index : ℕ} (h : DigitsFrom s at end index) where
         within = omega arith;
         small = omega arith;
         long = omega (arith, h .long, ap length here);
-        value = limited-after (index * 10 + (b - 48)) (digits (drop (end + 1) s) .value) ∙ ap (λ d. limited (value-after index d)) (sym here) ∙ h .value;
+        value = limited-after (index * 10 + (b - 48)) (digits (drop (end + 1) s) .value)
+            ∙ ap (λ d. limited (value-after index d)) (sym here) ∙ h .value;
       }
 
   stop : digits (drop end s) .value ≡ [] → DigitsTo s at end index
   unfolding value-after
   stop e =
-      let last : limited index ≡ limited (value-after 0 (digits (drop at s) .value)) = ap (λ d. limited (value-after index d)) (sym e) ∙ h .value in
+      let last : limited index ≡ limited (value-after 0 (digits (drop at s) .value)) = ap (λ d. limited (value-after index d)) (sym e)
+      ∙ h .value in
       ((omega (arith, h .long, ap length e), h .within), omega (arith, last, h .small))
 
   pub digits-low : end < length s → getD s end 0 < 48 → DigitsTo s at end index
@@ -88,7 +90,8 @@ module _ {s : Bytes} {at : ℕ} {w : Bytes} {i : ℕ} (h : StandsFrom s at w i) 
   stands-short l k = rw (drop-cons w i 0 l, drop-of-length-le s k) at (h .rest)
 
   here : i < length w → at + i < length s
-      → is-some (cond (eqb (getD w i 0) (getD s (at + i) 0)) (after (drop (suc i) w) (drop (suc (at + i)) s)) none) ≡ is-some (after w (drop at s))
+      → is-some (cond (eqb (getD w i 0) (getD s (at + i) 0)) (after (drop (suc i) w) (drop (suc (at + i)) s)) none)
+      ≡ is-some (after w (drop at s))
   unfolding after
   here l k = rw (drop-cons w i 0 l, drop-cons s (at + i) 0 k) at (h .rest)
 
@@ -193,4 +196,5 @@ module _ (s : Bytes) (at : ℕ) (h : at < length s) where
       name-one n l = properly (proper-one (read .value) (omega (arith, d .0 .0)))
 
       pub name-other : (end ≡ at + 1 → ⊥) → (getD s (at + 1) 0 ≡ 48 → ⊥) → To end index ≡ found-in (length s) (name (drop at s))
-      name-other n z = let l : 0 < length (read .value) = omega (arith, d .0 .0) in properly (proper-other (read .value) l (λ e. z (sym (first l) ∙ e)))
+      name-other n z =
+          let l : 0 < length (read .value) = omega (arith, d .0 .0) in properly (proper-other (read .value) l (λ e. z (sym (first l) ∙ e)))

@@ -2,7 +2,7 @@
 use mathlib.Core.Path.{_≡_, refl, sym, ap, _∙_}
 use mathlib.Core.Option.{Option, none, some}
 use mathlib.Core.List.{List, [], _∷_}
-use Prim.Native.Nat.{ℕ, zero, suc, _+_, _*_, _<_, _≤_, max}
+use Prim.Native.Nat.{ℕ, suc, _+_, _*_, _<_, _≤_, max}
 use native.Mathlib.Numerals.{add-one, add-two, add-three}
 use native.Mathlib.Omega.{arith}
 use borrow.Author.Tests.{le-leb, lt-leb}
@@ -12,7 +12,6 @@ use Rattle.theory.specs.Basics.{present}
 use Rattle.theory.specs.ProgramText.{Command, variables, command-of, listed}
 use Rattle.theory.specs.TurnedDown.{Open, rule-3, line-fault, lines-fault, program-fault, read-list}
 use Rattle.theory.specs.declared.Refusal.{Refusal}
-use Rattle.program.specs.declared.Checked.{Checked}
 use Rattle.program.specs.declared.Checked.the-variants.{Accepted, Refused}
 use Rattle.program.specs.declared.nest.Nest.{Nest}
 use Rattle.program.specs.Answers.{checked}
@@ -22,7 +21,15 @@ use Rattle.program.proofs.Pairs.{Known, known, passed-known}
 -- The three numbers at m, and the rest
 pub three-at : (l : List ℕ) (m : ℕ) → m + 2 < length l → drop m l ≡ getD l m 0 ∷ getD l (m + 1) 0 ∷ getD l (m + 2) 0 ∷ drop (m + 3) l
 three-at l m h =
-    rw (add-one m, add-two m, add-three m, drop-cons l m 0 (omega arith), drop-cons l (suc m) 0 (omega arith), drop-cons l (suc (suc m)) 0 (omega arith))
+    rw (
+      add-one m,
+      add-two m,
+      add-three m,
+      drop-cons l m 0 (omega arith),
+      drop-cons l (suc m) 0 (omega arith),
+      drop-cons l (suc (suc m)) 0
+          (omega arith),
+    )
 
 -- The commands of a list are a third of its numbers, a last one cut short counted
 pub listed-many : (l : List ℕ) → (length l ≤ 3 * length (listed l)) × (3 * length (listed l) < length l + 3)
@@ -52,7 +59,7 @@ module _ (l : List ℕ) (short : length l ≤ 1536) where
   unfolding read-list
   accepted-as n K e f g = rw (few, e, f, g)
 
--- Before command n + 1: s has the pairs then open, K is that of the commands before, and the faults that are left are those of the whole list
+-- Before command n + 1: s has the pairs then open, K is that of the commands before, and the faults left are those of the whole list
 pub record SoFar (l : List ℕ) (n K : ℕ) (s : Nest) : Type 0 where
   pub within : 3 * n ≤ length l
   pub room : s .count ≤ 16
@@ -86,7 +93,8 @@ module _ (l : List ℕ) (n K : ℕ) (s : Nest) (h : SoFar l n K s) where
         → K′ ≡ max K (suc (max (getD l (3 * n + 1) 0) (getD l (3 * n + 2) 0))) → SoFar l (n + 1) K′ s′
     unfolding lines-fault
     onward K′ s′ e f g =
-        let k : Known (getD l (3 * n) 0) (getD l (3 * n + 1) 0) (getD l (3 * n + 2) 0) = known _ _ _ (passed-known (n + 1) (open-pairs s) _ _ _ e) in
+        let k : Known (getD l (3 * n) 0) (getD l (3 * n + 1) 0) (getD l (3 * n + 2) 0) = known _ _ _
+        (passed-known (n + 1) (open-pairs s) _ _ _ e) in
         let split : present (listed (drop (3 * n) l)) ≡ k .command ∷ present (listed (drop (3 * (n + 1)) l)) = rw (left, k .is) in
         record {
           within = omega arith;
@@ -97,11 +105,15 @@ module _ (l : List ℕ) (n K : ℕ) (s : Nest) (h : SoFar l n K s) where
         }
 
   -- The end: a last command cut short, or rule 8
-  pub cut : 3 * n < length l → length l ≤ 3 * n + 2 → length l ≤ 1536 → Refused (record { number = 4; place = n + 1 }) ≡ checked (read-list l)
+  pub cut : 3 * n < length l → length l ≤ 3 * n + 2 → length l ≤ 1536
+      → Refused (record { number = 4; place = n + 1 }) ≡ checked (read-list l)
   unfolding lines-fault listed
-  cut more less short = refused-by l short _ (sym (h .rest) ∙ go (drop (3 * n) l) (omega (arith, length-drop (3 * n) l)) (omega (arith, length-drop (3 * n) l)))
+  cut more less short =
+      refused-by l short _ (sym (h .rest) ∙ go (drop (3 * n) l) (omega (arith, length-drop (3 * n) l))
+      (omega (arith, length-drop (3 * n) l)))
     where
-      go : (u : List ℕ) → 0 < length u → length u ≤ 2 → lines-fault (n + 1) (open-pairs s) (listed u) ≡ some (record { number = 4; place = n + 1 })
+      go : (u : List ℕ) → 0 < length u → length u ≤ 2
+          → lines-fault (n + 1) (open-pairs s) (listed u) ≡ some (record { number = 4; place = n + 1 })
       go [] a b = absurd (omega arith)
       go (k ∷ []) a b = refl
       go (k ∷ i ∷ []) a b = refl
@@ -114,6 +126,9 @@ module _ (l : List ℕ) (n K : ℕ) (s : Nest) (h : SoFar l n K s) where
       nothing-left : drop (3 * n) l ≡ []
       nothing-left = drop-of-length-le l all
 
-      go : (os : List Open) → lines-fault 1 [] (listed l) ≡ lines-fault (n + 1) os [] → at-end (record { lines = n; variables = K }) os ≡ checked (read-list l)
-      go [] e = accepted-as l short n K e (omega (arith, h .commands, ap (λ u. length (present (listed u))) nothing-left)) (omega (arith, h .names, ap (λ u. variables (present (listed u))) nothing-left))
+      go : (os : List Open) → lines-fault 1 [] (listed l) ≡ lines-fault (n + 1) os []
+          → at-end (record { lines = n; variables = K }) os ≡ checked (read-list l)
+      go [] e =
+          accepted-as l short n K e (omega (arith, h .commands, ap (λ u. length (present (listed u))) nothing-left))
+          (omega (arith, h .names, ap (λ u. variables (present (listed u))) nothing-left))
       go (o ∷ os) e = refused-by l short _ e

@@ -6,14 +6,13 @@ use mathlib.Core.List.{List, [], _∷_}
 use Prim.Native.Nat.{ℕ, zero, suc, _+_, _-_, _<_, _≤_, max}
 use native.Mathlib.Numerals.{add-one}
 use native.Mathlib.Omega.{arith}
-use borrow.Author.Tests.{ltb-true, eqb-true, lt-leb, le-leb, lt-ltb, le-ltb, eq-eqb, ne-eqb}
+use borrow.Author.Tests.{ltb-true, eqb-true, lt-leb, le-leb, eq-eqb, ne-eqb}
 use lib.Dec.{eqb, ltb}
 use lib.ListN.{length, getD, set}
 use lib.Seq.{getD-set-same, getD-set-other}
-use Rattle.theory.specs.Limits.{most-open}
-use Rattle.theory.specs.Basics.{or-else}
-use Rattle.theory.specs.ProgramText.{Plain, clear, increment, copy, Kind, loop, while, Command, plain, opens, closes, indices, above, command-of}
-use Rattle.theory.specs.TurnedDown.{Open, unless, refuse, same-kind, pair-fault, line-fault, open-next}
+use Rattle.theory.specs.ProgramText.{Plain, clear, increment, copy, Kind, loop, while, Command, plain, opens, closes, indices, above}
+use Rattle.theory.specs.ProgramText.{command-of}
+use Rattle.theory.specs.TurnedDown.{Open, unless, same-kind, pair-fault, line-fault}
 use Rattle.theory.specs.declared.Refusal.{Refusal}
 use Rattle.theory.proofs.Nesting.{few-open, one-open}
 use Rattle.program.specs.declared.nest.Opening.{Opening}
@@ -81,7 +80,8 @@ module _ (n : ℕ) (s : Nest) (k i : ℕ) where
     pub closing-kind : same-kind (kind-of k) (kind-of (last .kind)) ≡ false → Fault (record { number = 7; place = n }) ≡ closing
     closing-kind e = closing-is false (rw e)
 
-    pub closing-index : same-kind (kind-of k) (kind-of (last .kind)) ≡ true → (i ≡ last .index → ⊥) → Fault (record { number = 7; place = n }) ≡ closing
+    pub closing-index : same-kind (kind-of k) (kind-of (last .kind)) ≡ true → (i ≡ last .index → ⊥)
+        → Fault (record { number = 7; place = n }) ≡ closing
     closing-index e f = closing-is false (rw (e, ne-eqb i (last .index) f))
 
 -- A command by its numbers
@@ -109,13 +109,20 @@ pub known : (k i j : ℕ) → is-known k j ≡ true → Known k i j
 unfolding command-of
 known zero i j h = absurd (false≢true h)
 known (suc zero) i j h = record { command = plain (clear i); is = rw h; top = one-index i j h; other = λ _ _ _ _. (clear i, refl) }
-known (suc (suc zero)) i j h = record { command = plain (increment i); is = rw h; top = one-index i j h; other = λ _ _ _ _. (increment i, refl) }
-known (suc (suc (suc zero))) i j h = record { command = plain (copy i j); is = refl; top = omega arith; other = λ _ _ _ _. (copy i j, refl) }
-known (suc (suc (suc (suc zero)))) i j h = record { command = opens loop i; is = rw h; top = one-index i j h; other = λ n _ _ _. absurd (n refl) }
-known (suc (suc (suc (suc (suc zero))))) i j h = record { command = closes loop i; is = rw h; top = one-index i j h; other = λ _ n _ _. absurd (n refl) }
-known (suc (suc (suc (suc (suc (suc zero)))))) i j h = record { command = opens while i; is = rw h; top = one-index i j h; other = λ _ _ n _. absurd (n refl) }
-known (suc (suc (suc (suc (suc (suc (suc zero))))))) i j h = record { command = closes while i; is = rw h; top = one-index i j h; other = λ _ _ _ n. absurd (n refl) }
-known (suc (suc (suc (suc (suc (suc (suc (suc k)))))))) i j h = absurd (omega (arith, known-below (suc (suc (suc (suc (suc (suc (suc (suc k)))))))) j h))
+known (suc (suc zero)) i j h =
+    record { command = plain (increment i); is = rw h; top = one-index i j h; other = λ _ _ _ _. (increment i, refl) }
+known (suc (suc (suc zero))) i j h =
+    record { command = plain (copy i j); is = refl; top = omega arith; other = λ _ _ _ _. (copy i j, refl) }
+known (suc (suc (suc (suc zero)))) i j h =
+    record { command = opens loop i; is = rw h; top = one-index i j h; other = λ n _ _ _. absurd (n refl) }
+known (suc (suc (suc (suc (suc zero))))) i j h =
+    record { command = closes loop i; is = rw h; top = one-index i j h; other = λ _ n _ _. absurd (n refl) }
+known (suc (suc (suc (suc (suc (suc zero)))))) i j h =
+    record { command = opens while i; is = rw h; top = one-index i j h; other = λ _ _ n _. absurd (n refl) }
+known (suc (suc (suc (suc (suc (suc (suc zero))))))) i j h =
+    record { command = closes while i; is = rw h; top = one-index i j h; other = λ _ _ _ n. absurd (n refl) }
+known (suc (suc (suc (suc (suc (suc (suc (suc k)))))))) i j h =
+    absurd (omega (arith, known-below (suc (suc (suc (suc (suc (suc (suc (suc k)))))))) j h))
 
 none-either-way : (b : Bool) → cond {A = Option Command} b none none ≡ none
 none-either-way true = refl
@@ -125,7 +132,16 @@ no-kind : (k i j : ℕ) → 7 < k → command-of k i j ≡ none
 unfolding command-of
 no-kind k i j h =
     let ne : (m : ℕ) → m ≤ 7 → eqb k m ≡ false = λ m l. ne-eqb k m (λ e. omega arith) in
-    simp (ne 3 (omega arith), ne 1 (omega arith), ne 2 (omega arith), ne 4 (omega arith), ne 5 (omega arith), ne 6 (omega arith), ne 7 (omega arith))
+    simp (
+      ne 3 (omega arith),
+      ne 1 (omega arith),
+      ne 2 (omega arith),
+      ne 4 (omega arith),
+      ne 5 (omega arith),
+      ne 6 (omega arith),
+      ne 7
+          (omega arith),
+    )
     (none-either-way (eqb j 0))
 
 pub unknown : (k i j : ℕ) → is-known k j ≡ false → command-of k i j ≡ none
@@ -138,7 +154,8 @@ unknown (suc (suc (suc (suc zero)))) i j h = rw h
 unknown (suc (suc (suc (suc (suc zero))))) i j h = rw h
 unknown (suc (suc (suc (suc (suc (suc zero)))))) i j h = rw h
 unknown (suc (suc (suc (suc (suc (suc (suc zero))))))) i j h = rw h
-unknown (suc (suc (suc (suc (suc (suc (suc (suc k)))))))) i j h = no-kind (suc (suc (suc (suc (suc (suc (suc (suc k)))))))) i j (omega arith)
+unknown (suc (suc (suc (suc (suc (suc (suc (suc k)))))))) i j h =
+    no-kind (suc (suc (suc (suc (suc (suc (suc (suc k)))))))) i j (omega arith)
 
 -- What kinds 4 to 7 are, where the three numbers are a command
 
@@ -214,7 +231,11 @@ module _ (s : Nest) (n k i j : ℕ) (h : line-fault n (open-pairs s) (command-of
 -- The stack after a command
 
 pub follows-push : (n : ℕ) (s : Nest) (k i : ℕ) → length (s .openings) ≡ 16 → s .count < 16
-    → Follows n (open-pairs s) (some (opens (kind-of k) i)) (record { count = s .count + 1; openings = set (s .openings) (s .count) (record { line = n; kind = k; index = i }) })
+    → Follows n (open-pairs s) (some (opens (kind-of k) i)) (record {
+      count = s .count + 1;
+      openings = set (s .openings) (s .count)
+          (record { line = n; kind = k; index = i });
+    })
 follows-push n s k i e h =
     record {
       pairs = innermost-push (s .count) (s .openings) (record { line = n; kind = k; index = i }) (omega arith);

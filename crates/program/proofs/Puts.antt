@@ -1,5 +1,5 @@
 -- Laws of bytes written at a place: one write after the other.
-use mathlib.Core.Path.{_≡_, refl, ap, _∙_}
+use mathlib.Core.Path.{_≡_, ap, _∙_}
 use mathlib.Core.List.{List, [], _∷_, _++_}
 use Prim.Native.Nat.{ℕ, suc, _+_, _≤_, _<_}
 use native.Mathlib.Nat.{add-suc, suc-add, add-zero, zero-add}
@@ -14,7 +14,8 @@ sets-append [] v l i = rw (add-zero i)
 sets-append (a ∷ u) v l i = rw (add-suc i (length u), ← suc-add i (length u)) (sets-append u v (set l i a) (suc i))
 
 -- One byte more
-pub sets-more : (l m w : List ℕ) (at i : ℕ) → i < length w → m ≡ sets l at (take i w) → set m (at + i) (getD w i 0) ≡ sets l at (take (i + 1) w)
+pub sets-more : (l m w : List ℕ) (at i : ℕ) → i < length w → m ≡ sets l at (take i w)
+    → set m (at + i) (getD w i 0) ≡ sets l at (take (i + 1) w)
 sets-more l m w at i h e =
     rw (e, add-one i, take-suc w i 0 h, sets-append (take i w) (getD w i 0 ∷ []) l at, length-take-le i w (omega arith))
 

@@ -91,7 +91,8 @@ module _ (t : Bytes) (lent numbers : List ℕ) (lines : ℕ) (d : Lined t number
 
           pub read-no-room : length lent < 3 * lines → Reads t lent (C.Refused (record { number = 19; place = 0 })) lent
           read-no-room l =
-              reads-no-room t lent part (read .0) (same-read ∙ read .1) (lists-round-trip .1 part (read .0) (read .1)) (omega (arith, part-length))
+              reads-no-room t lent part (read .0) (same-read ∙ read .1) (lists-round-trip .1 part (read .0) (read .1))
+              (omega (arith, part-length))
 
           pub read-all : {out : List ℕ} {j : ℕ} → 3 * lines ≤ length lent → Put part 0 lent out j → Reads t lent (C.Accepted q) out
           read-all l w =

@@ -1,5 +1,5 @@
 -- Rules 1 to 8 of a text: the check of its numbers, whose indices are limited, is the check of its commands.
-use mathlib.Core.Path.{_≡_, refl, sym, ap, _∙_}
+use mathlib.Core.Path.{_≡_, refl, sym, ap}
 use mathlib.Core.Bool.{Bool, true, false, _||_}
 use mathlib.Core.Option.{Option, none, some, Option·map, Option·none-ne-some}
 use mathlib.Core.List.{List, [], _∷_, map}
@@ -10,8 +10,10 @@ use lib.Dec.{leb, eqb}
 use lib.ListN.{length, getD, length-map}
 use Rattle.theory.specs.Basics.{or-else, present}
 use Rattle.theory.specs.Text.{Bytes, split-lines, ends-in-LF}
-use Rattle.theory.specs.ProgramText.{clear, increment, copy, loop, while, Command, plain, opens, closes, indices, above, command, command-of, listed}
-use Rattle.theory.specs.TurnedDown.{Answer, done, refused, answer, Open, rule-1, rule-2, rule-3, line-fault, open-next, lines-fault, program-fault}
+use Rattle.theory.specs.ProgramText.{clear, increment, copy, loop, while, Command, plain, opens, closes, indices, above, command}
+use Rattle.theory.specs.ProgramText.{command-of, listed}
+use Rattle.theory.specs.TurnedDown.{refused, answer, Open, rule-1, rule-2, rule-3, line-fault, open-next, lines-fault}
+use Rattle.theory.specs.TurnedDown.{program-fault}
 use Rattle.theory.specs.TurnedDown.{text-lines, text-fault, read-text, read-list}
 use Rattle.theory.specs.declared.Refusal.{Refusal}
 use Rattle.theory.proofs.Nesting.{indexed, first-line, next-lines, faultless}
@@ -83,7 +85,8 @@ lines-capped (c ∷ p) n os = rw (line-capped n os c) (go (line-fault n os c) re
   where
     go : (v : Option Refusal) → line-fault n os c ≡ v
         → lines-fault (suc n) (open-next n os c) (map capped-line p) ≡ lines-fault (suc n) (open-next n os c) p
-        → or-else v (lines-fault (suc n) (open-next n os (capped-line c)) (map capped-line p)) ≡ or-else v (lines-fault (suc n) (open-next n os c) p)
+        → or-else v (lines-fault (suc n) (open-next n os (capped-line c)) (map capped-line p))
+        ≡ or-else v (lines-fault (suc n) (open-next n os c) p)
     go none e r = rw (passes-capped n os c e) r
     go (some q) e r = refl
 
@@ -101,7 +104,8 @@ pub numbers-read : (t : Bytes) → read-list (all-numbers (split-lines t)) ≡ a
 unfolding read-list
 numbers-read t = rw (listed-numbers (split-lines t), program-capped (text-lines t)) (go (program-fault (text-lines t)) refl)
   where
-    go : (v : Option Refusal) → program-fault (text-lines t) ≡ v → answer v (present (map capped-line (text-lines t))) ≡ answer v (present (text-lines t))
+    go : (v : Option Refusal) → program-fault (text-lines t) ≡ v
+        → answer v (present (map capped-line (text-lines t))) ≡ answer v (present (text-lines t))
     go none e = rw (all-capped (text-lines t) 1 [] (faultless (text-lines t) e .1))
     go (some r) e = refl
 
@@ -125,7 +129,8 @@ module _ (t : Bytes) where
   refused-1 h = rw (lt-leb (length t) 16384 h)
 
   module _ (h : length t ≤ 16384) where
-    pub refused-2 : (eqb (length t) 0 || ends-in-LF t) ≡ false → read-text t ≡ refused (record { number = 2; place = length (split-lines t) })
+    pub refused-2 : (eqb (length t) 0 || ends-in-LF t) ≡ false
+        → read-text t ≡ refused (record { number = 2; place = length (split-lines t) })
     unfolding read-text text-fault rule-1 rule-2
     refused-2 e = rw (le-leb (length t) 16384 h, e)
 

@@ -1,12 +1,11 @@
 -- Laws of the lines of a text: where each ends, and their numbers in the list as they are read.
-use mathlib.Core.Path.{_≡_, refl, sym, ap, ap₂, _∙_}
+use mathlib.Core.Path.{_≡_, refl, sym, ap, _∙_}
 use mathlib.Core.Bool.{Bool, true, false, cond}
 use mathlib.Core.List.{List, [], _∷_, _++_, append-assoc, append-nil}
-use Prim.Native.Nat.{ℕ, zero, suc, _+_, _-_, _*_, _<_, _≤_}
-use native.Mathlib.Nat.{add-suc}
+use Prim.Native.Nat.{ℕ, suc, _+_, _-_, _*_, _<_, _≤_}
 use native.Mathlib.Numerals.{add-one}
 use native.Mathlib.Omega.{arith}
-use borrow.Author.Tests.{eq-eqb, ne-eqb}
+use borrow.Author.Tests.{ne-eqb}
 use lib.Dec.{eqb}
 use lib.ListN.{length, getD, take, drop, length-append, length-drop, drop-of-length-le}
 use lib.Seq.{sets, sets-eq, drop-cons, drop-drop, take-at, length-take-le}
@@ -24,7 +23,8 @@ module _ (t : Bytes) (at end : ℕ) (h : EndsFrom t at end) where
   pub line-more : end < length t → (getD t end 0 ≡ 10 → ⊥) → EndsFrom t at (end + 1)
   unfolding line-length
   line-more l n =
-      let here : line-length (drop end t) ≡ suc (line-length (drop (end + 1) t)) = rw (drop-cons t end 0 l, ne-eqb (getD t end 0) 10 n, add-one end) in
+      let here : line-length (drop end t) ≡ suc (line-length (drop (end + 1) t)) = rw
+      (drop-cons t end 0 l, ne-eqb (getD t end 0) 10 n, add-one end) in
       (omega arith, omega (arith, h .1, here))
 
   pub line-LF : end < length t → getD t end 0 ≡ 10 → (end ≡ at + line-length (drop at t)) × (end ≤ length t)
@@ -108,5 +108,6 @@ module _ (t l : List ℕ) (at lines : ℕ) (h : LinesFrom t l at lines) where
           few = omega (arith, h .few, e);
           size = omega (arith, g, h .size);
           count = omega (arith, h .count, ap length split);
-          numbers = λ r. ap (λ u. u ++ rest) (front r) ∙ append-assoc (take (3 * lines) l) three rest ∙ rw (← left) (h .numbers (omega arith));
+          numbers = λ r. ap (λ u. u ++ rest) (front r) ∙ append-assoc (take (3 * lines) l) three rest
+              ∙ rw (← left) (h .numbers (omega arith));
         }

@@ -1,12 +1,11 @@
 -- Laws of what is written: names of one digit or two, the lines of commands by their numbers, and the commands that are left to write.
-use mathlib.Core.Path.{_≡_, refl, sym, ap, _∙_}
-use mathlib.Core.List.{List, [], _∷_, _++_, map, append-assoc}
-use Prim.Native.Nat.{ℕ, suc, _+_, _*_, _<_, _≤_, _/_, _%_}
+use mathlib.Core.Path.{_≡_, _∙_}
+use mathlib.Core.List.{[], _∷_, _++_, append-assoc}
+use Prim.Native.Nat.{ℕ, _+_, _<_, _≤_, _/_, _%_}
 use native.Mathlib.Omega.{arith}
 use borrow.Author.Tests.{ne-eqb}
-use lib.ListN.{length, length-append}
-use Rattle.theory.specs.Text.{Bytes, bytes, LF, name-of}
-use Rattle.theory.specs.ProgramText.{clear, increment, copy, loop, while, Command, plain, opens, closes, spelling, text-of, numbers, command-of, listed}
+use Rattle.theory.specs.Text.{bytes, LF, name-of}
+use Rattle.theory.specs.ProgramText.{clear, increment, copy, loop, while, Command, plain, opens, closes, spelling, numbers}
 use Rattle.theory.proofs.Numerals.{decimal-small, decimal-large}
 use Rattle.program.specs.Spellings.{command-line}
 

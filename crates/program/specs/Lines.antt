@@ -3,11 +3,12 @@ use mathlib.Core.Bool.{Bool, true, false, cond}
 use mathlib.Core.Option.{Option, none, some, Option·map}
 use mathlib.Core.List.{List, [], _∷_}
 use mathlib.Core.Path.{_≡_}
-use Prim.Native.Nat.{ℕ, suc, _-_, _*_, _≤_, min}
+use Prim.Native.Nat.{ℕ, suc, _+_, _-_, _*_, _≤_, min}
 use lib.Dec.{eqb}
-use lib.ListN.{length, take}
+use lib.ListN.{length, take, drop}
+use lib.Seq.{sets}
 use Rattle.theory.specs.Basics.{given, or-else, and-then}
-use Rattle.theory.specs.Text.{Bytes, bytes, LF, Found, same, name, split-lines}
+use Rattle.theory.specs.Text.{Bytes, bytes, LF, Found, same, name, name-of, split-lines}
 use Rattle.theory.specs.ProgramText.{clear, increment, copy, loop, while, Command, plain, opens, closes, around, assigns, command}
 use Rattle.program.specs.declared.line.Numbers.{Numbers}
 use Rattle.program.specs.declared.line.Named.{Named}
@@ -50,6 +51,10 @@ from-name i u =
     or-else (and-then (pair (bytes " + 1")) λ ij. given (eqb (ij .0) (ij .1)) (plain (increment (ij .0))))
     (Option·map (λ ij. plain (copy (ij .0) (ij .1))) (pair (bytes "")))
 
+-- What the numbers r say of a line s that begins with a name, which ends at `end`, and has an arrow after it
+abbrev pub Assigned : Bytes → ℕ → ℕ → Numbers → Type 0
+Assigned s end index r = (i : ℕ) → take end s ≡ name-of i → index ≡ limited i → r ≡ numbered (from-name i (drop (end + 4) s))
+
 -- The first three spellings
 abbrev pub clears : Bytes → Option Command
 clears t = Option·map (λ i. plain (clear i)) (around (bytes "") (bytes " <- 0") t)
@@ -72,6 +77,10 @@ line-length (b ∷ t) = cond (eqb b LF) 0 (suc (line-length t))
 unfoldable pub all-numbers : List Bytes → List ℕ
 all-numbers [] = []
 all-numbers (l ∷ ls) = let n = numbered (command l) in n .kind ∷ n .index ∷ n .source ∷ all-numbers ls
+
+-- Three numbers stand at a place of a list, where it has room for them
+abbrev pub Stored : Numbers → ℕ → List ℕ → List ℕ → Type 0
+Stored n at before after = at + 3 ≤ length before → after ≡ sets before at (n .kind ∷ n .index ∷ n .source ∷ [])
 
 -- A text has r lines, and the numbers of all stand at the front of a list, where they are few enough for it
 pub record Lined (t l : List ℕ) (r : ℕ) : Type 0 where

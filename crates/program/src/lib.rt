@@ -104,7 +104,8 @@ fn is_ended(text: &[u8]) -> bool
 // A text read into a lent list of three numbers a command: rules 1 to 8, then 19.
 pub fn read(text: &[u8], list: &mut [u8]) -> Checked
     ensures { λ r. ⌜ r ≡ checked (read-into (now (list .entry)) (now (text .entry))) ⌝ }
-    ensures { λ _. ⌜ now (list .exit) ≡ lent-after (now (list .entry)) (mapped list-of (read-into (now (list .entry)) (now (text .entry)))) ⌝ }
+    ensures { λ _. ⌜ now (list .exit)
+        ≡ lent-after (now (list .entry)) (mapped list-of (read-into (now (list .entry)) (now (text .entry)))) ⌝ }
 {
     if Program::BYTES < text.len() {
         return refused(1, 0);

@@ -1,16 +1,13 @@
 // A line of a program's text, read as the three numbers of its command.
 use crate::Program;
 ghost use mathlib.Core.Path.{_≡_};
-ghost use mathlib.Core.Option.{some};
-ghost use mathlib.Core.List.{_∷_, []};
-ghost use Prim.Native.Nat.{ℕ, _+_, _-_, _*_, _≤_, _<_};
-ghost use lib.ListN.{length, drop, take};
-ghost use lib.Seq.{sets};
+ghost use Prim.Native.Nat.{_+_, _-_, _*_, _≤_, _<_};
+ghost use lib.ListN.{length, drop};
 ghost use Rattle.theory.specs.Limits.{most-bytes};
-ghost use Rattle.theory.specs.Text.{after, same, digits, value-after, name, name-of};
+ghost use Rattle.theory.specs.Text.{after, same, digits, value-after, name};
 ghost use Rattle.theory.specs.ProgramText.{around, command};
-ghost use Rattle.program.specs.Lines.{limited, is-some, found-in, of-kind, numbered, from-name, assignment as assignment-of};
-ghost use Rattle.program.specs.Lines.{line-length, Lined};
+ghost use Rattle.program.specs.Lines.{limited, is-some, found-in, of-kind, numbered, assignment as assignment-of};
+ghost use Rattle.program.specs.Lines.{Assigned, line-length, Stored, Lined};
 
 // Kind (0 where a line is none of the spellings), index, and a copy's source index. An index above 31 is 32.
 pub struct Numbers {
@@ -151,7 +148,7 @@ fn pair_line(s: &[u8], kind: u8, front: &[u8], back: &[u8]) -> Numbers
 // An increment or a copy of the variable whose name ends at a place of a line: by the name after the arrow.
 fn assigned(s: &[u8], end: usize, index: u8) -> Numbers
     requires { ⌜ end + 4 ≤ length (now s) ⌝ }
-    ensures { λ r. ⌜ ((i : ℕ) → take end (now (s .entry)) ≡ name-of i → index ≡ limited i → r ≡ numbered (from-name i (drop (end + 4) (now (s .entry))))) ⌝ }
+    ensures { λ r. ⌜ Assigned (now (s .entry)) end index r ⌝ }
 {
     let at = end + 4;
     match name_at(s, at) {
@@ -244,7 +241,7 @@ fn line_end(text: &[u8], at: usize) -> usize
 // Three numbers at a place of a list, where it has room.
 fn store(n: Numbers, list: &mut [u8], at: usize)
     requires { ⌜ at < 65536 ⌝ }
-    ensures { λ _. ⌜ (at + 3 ≤ length (now (list .entry)) → now (list .exit) ≡ sets (now (list .entry)) at (n .kind ∷ (n .index ∷ (n .source ∷ [])))) ⌝ }
+    ensures { λ _. ⌜ Stored n at (now (list .entry)) (now (list .exit)) ⌝ }
 {
     if at + 2 < list.len() {
         list[at] = n.kind;

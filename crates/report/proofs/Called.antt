@@ -1,23 +1,30 @@
 -- What the runs that this crate calls hand back for a row: the ends and the steps of the definitions' runs.
-use mathlib.Core.Path.{_≡_, sym, ap, _∙_}
+use mathlib.Core.Path.{subst, _≡_, sym, ap, _∙_}
 use mathlib.Core.List.{List}
 use Prim.Native.Nat.{ℕ}
+use native.Mathlib.Omega.{arith}
 use lib.IntN.{pos}
+use lib.ListN.{getD}
 use Rattle.theory.specs.Text.{Bytes}
 use Rattle.theory.specs.ProgramText.{Command, variables}
 use Rattle.theory.specs.Word as W
 use Rattle.theory.specs.Translation.{word-of, word-text}
 use Rattle.theory.specs.Machines.{holding, run-word}
-use Rattle.theory.specs.TurnedDown.{done, read-word-for, instructions}
-use Rattle.theory.specs.RunTool.{tool-word}
+use Rattle.theory.specs.TurnedDown.{done, after, read-list, read-word-for, instructions}
+use Rattle.theory.specs.RunTool.{tool-source, tool-word}
 use Rattle.theory.specs.Claims.{Accepted}
+use Rattle.theory.proofs.Nesting.{reads-accepted}
 use Rattle.theory.proofs.Sizes.{words-fit}
 use Rattle.machine.specs.Calls as Calls
 use Rattle.machine.specs.declared.answers.Run as M
+use Rattle.source.specs.Answers.{fresh-state, run-from, ended-by, state-by, HandsBack}
+use Rattle.source.specs.declared.Run.{Run}
+use Rattle.source.specs.declared.State.{State}
 use Rattle.report.specs.Fresh.{values-of, Starts, Filled}
-use Rattle.report.specs.Rows.{ended-of, word-ended}
+use Rattle.report.specs.Rows.{commands, ended-of, word-ended, source-ended, row-of, Ready, Ran}
 use Rattle.report.specs.declared.writing.Ended.{Ended}
-use Rattle.report.proofs.Starting.{word-memory, word-start, memory-passes, word-runs, tool-runs}
+use Rattle.report.proofs.Starting.{source-passes, source-runs, source-within, first-within}
+use Rattle.report.proofs.Starting.{word-memory, word-start, memory-passes, word-runs, word-within, tool-runs}
 
 module _ (p : List Command) (accepted : Accepted p) (values : List ℕ) (h : Starts (variables p) values) (store : Bytes) (lengths : List ℕ)
     (filled : Filled (holding (variables p) (values-of values)) store lengths) where
@@ -38,3 +45,49 @@ module _ (p : List Command) (accepted : Accepted p) (values : List ℕ) (h : Sta
       let same : run-word (instructions (W.table-of (word-of p))) m word-start 1000000 ≡ tool-word p (values-of values)
       = ap (λ w. run-word w m word-start 1000000) (words-fit p accepted .2) ∙ ran in
       ap {B = Ended} (λ c. word-ended (c .run .ended)) answered ∙ ap {B = Ended} ended-of same
+
+-- The source
+module _ (p : List Command) (values : List ℕ) (h : Starts (variables p) values) (list : Bytes) (accepted : read-list list ≡ done p) where
+  source-answer : after (read-list list) (run-from (fresh-state 1024 values) 100000) ≡ done (tool-source p (values-of values))
+  unfolding run-from
+  source-answer = rw (accepted, source-passes p values h) (ap done (source-runs p values h))
+
+  module _ (r : Run)
+      (back : HandsBack (fresh-state 1024 values) (after (read-list list) (run-from (fresh-state 1024 values) 100000)) r) where
+    pub source-ends : source-ended (r .ended) ≡ ended-of (tool-source p (values-of values))
+    unfolding ended-by
+    source-ends = ap {B = Ended} source-ended (back .ended ∙ ap ended-by source-answer)
+
+    pub source-first : getD (r .state .values) 0 0 ≡ tool-source p (values-of values) .state .values 0
+    unfolding state-by
+    source-first = ap (λ s. getD (s .values) 0 0) (back .state ∙ ap {B = State} (state-by (fresh-state 1024 values)) source-answer)
+
+-- Both runs of a row
+module _ (list word : Bytes) (K : ℕ) (values : List ℕ) (ready : Ready list word K) (h : Starts K values) where
+  p : List Command
+  p = commands list
+
+  v : ℕ → ℕ
+  v = values-of values
+
+  pub row-ran : (r : Run)
+      → HandsBack (fresh-state 1024 values) (after (read-list list) (run-from (fresh-state 1024 values) 100000)) r
+      → (source-run word-run : Ended) → source-run ≡ source-ended (r .ended)
+      → ((q : List Command) → Accepted q → word ≡ word-text q → K ≡ variables q → word-run ≡ ended-of (tool-word q (values-of values)))
+      → Ran (commands list) (values-of values) (record { source = source-run; word = word-run; first = getD (r .state .values) 0 0 })
+  unfolding row-of p v
+  row-ran r back source-run word-run e w =
+      let starts : Starts (variables p) values = subst (λ k. Starts k values) (ready .listed .named) h in
+      let accepted : Accepted p = reads-accepted .1 list p (ready .listed .accepted) in
+      let source : source-run ≡ ended-of (tool-source p v) = e ∙ source-ends p values starts list (ready .listed .accepted) r back in
+      let word : word-run ≡ ended-of (tool-word p v) = w p accepted (ready .translated) (ready .listed .named) in
+      let first : getD (r .state .values) 0 0 ≡ tool-source p v .state .values 0
+      = source-first p values starts list (ready .listed .accepted) r back in
+      record {
+        row = λ i. record { source = source i; word = word i; first = first i };
+        within = record {
+          source = omega (arith, ap (λ o. o .steps) source, source-within p values starts);
+          word = omega (arith, ap (λ o. o .steps) word, word-within p v);
+          first = omega (arith, first, first-within p values starts accepted);
+        };
+      }

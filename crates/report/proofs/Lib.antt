@@ -7,3 +7,8 @@ pub mod Sheets
 pub mod Printing
 pub mod Underway
 pub mod Called
+pub mod Reading
+pub mod Lending
+pub mod Columns
+pub mod Stepping
+pub mod Translating

@@ -1,8 +1,9 @@
 -- What is printed, by what turns a program or its sheet down.
-use mathlib.Core.Path.{_≡_, refl}
+use mathlib.Core.Path.{_≡_, refl, sym, subst}
 use mathlib.Core.Option.{none, some}
 use mathlib.Core.List.{List, _++_}
-use Prim.Native.Nat.{_≤_, _<_}
+use Prim.Native.Nat.{ℕ, _≤_, _<_}
+use native.Mathlib.Omega.{arith}
 use lib.ListN.{length}
 use borrow.Author.Tests.{le-leb, lt-leb}
 use Rattle.theory.specs.Text.{Bytes, split-lines}
@@ -14,8 +15,8 @@ use Rattle.theory.specs.Translation.{word-text}
 use Rattle.theory.specs.TurnedDown.{done, refused, read-text, sheet-fault}
 use Rattle.theory.specs.RunTool.{shown, header, rows-of, tool-fault, tool-answer, report}
 use Rattle.theory.specs.declared.Refusal.{Refusal}
-use Rattle.report.specs.Puts.{row-line, refusal-line}
-use Rattle.report.specs.Rows.{row-of, program-report}
+use Rattle.report.specs.Puts.{Few, row-line, refusal-line}
+use Rattle.report.specs.Rows.{row-of, program-report, Printed}
 
 pub shown-row : (s : Outcome S.State) (w : Outcome W.State) → row-line (row-of s w) ≡ shown s w
 unfolding row-line row-of shown
@@ -28,6 +29,12 @@ text-refused t s r e = rw e
 pub text-accepted : (t s : Bytes) (p : List Command) → read-text t ≡ done p → report t s ≡ program-report p s
 unfolding report tool-answer program-report
 text-accepted t s p e = rw e
+
+-- A refusal's line, put, is the report where that is the line
+pub refusal-printed : {t before after : Bytes} {n : ℕ} (r : Refusal) → t ≡ refusal-line r → Few 50 (refusal-line r) 0 before after n
+    → Printed t before after n
+refusal-printed {t} {before} {after} {n} r e put =
+    subst (λ u. Printed u before after n) (sym e) (record { put = put .put; few = omega (arith, put .few) })
 
 module _ (p : List Command) (s : Bytes) where
   pub sheet-refused : (r : Refusal) → sheet-fault 1024 (variables p) s ≡ some r → program-report p s ≡ refusal-line r

@@ -46,6 +46,9 @@ pub few-then : {a b most : ℕ} {u v : Bytes} {i j k : ℕ} {l m n : Bytes} → 
     → Few a u i l m j → Few b v j m n k → Few most (u ++ v) i l n k
 few-then h f g = record { put = put-then (f .put) (g .put); few = omega (arith, f .few, g .few) }
 
+pub few-text : {most i k : ℕ} {u l n : Bytes} → Put u i l n k → length u ≤ most → Few most u i l n k
+few-text p h = record { put = p; few = omega (arith, p .counted) }
+
 pub few-byte : {b i k : ℕ} {l n : Bytes} → Put (b ∷ []) i l n k → Few 1 (b ∷ []) i l n k
 few-byte p = record { put = p; few = omega (arith, p .counted) }
 

@@ -10,12 +10,11 @@ use Rattle.theory.specs.Text.{Bytes, split-lines}
 use Rattle.theory.specs.ProgramText.{Command}
 use Rattle.theory.specs.RunSheet.{values}
 use Rattle.theory.specs.TurnedDown.{values-fault, rows-fault, names-of}
-use Rattle.theory.specs.RunTool.{header, row, rows, rows-of}
+use Rattle.theory.specs.RunTool.{row, rows, rows-of}
 use Rattle.theory.specs.declared.Refusal.{Refusal}
 use Rattle.theory.proofs.Faults.{none-first, none-second}
 use Rattle.report.specs.Puts.{Put}
-use Rattle.report.specs.Rows.{Printed}
-use Rattle.report.proofs.Puts.{put-then}
+use Rattle.report.proofs.Puts.{put-none, put-then}
 use Rattle.report.proofs.Sheets.{Sheet}
 
 -- The names of a sheet, and its lines from a byte on
@@ -25,12 +24,12 @@ columns s = names-of (split-lines s)
 abbrev pub lines-from : Bytes → ℕ → List Bytes
 lines-from s at = split-lines (drop at s)
 
--- The next row begins at byte `at`, as line n of the sheet
-pub record Writing (p : List Command) (s before : Bytes) (at n place : ℕ) (out : Bytes) : Type 0 where
+-- The next row begins at byte `at`, as line n of the sheet. The rows are put from `from` on
+pub record Writing (p : List Command) (s : Bytes) (from : ℕ) (before : Bytes) (at n place : ℕ) (out : Bytes) : Type 0 where
   pub inside : at ≤ length s
   pub text : Bytes
-  pub put : Put text 0 before out place
-  pub whole : text ++ rows p (columns s) (lines-from s at) ≡ header ++ rows-of p (split-lines s)
+  pub put : Put text from before out place
+  pub whole : text ++ rows p (columns s) (lines-from s at) ≡ rows-of p (split-lines s)
   pub passes : rows-fault 1024 (length (columns s)) n (lines-from s at) ≡ none
   pub few : place ≤ 11 + 36 * at
   pub counted : n ≤ at + 1
@@ -38,27 +37,26 @@ pub record Writing (p : List Command) (s before : Bytes) (at n place : ℕ) (out
 rows-after : (p : List Command) (ls : List Bytes) (l : Bytes) (rest : List Bytes) → ls ≡ l ∷ rest → rows-of p ls ≡ rows p (names-of ls) rest
 rows-after p ls l rest e = subst (λ m. rows-of p m ≡ rows p (names-of m) rest) (sym e) refl
 
-module _ (p : List Command) (s before : Bytes) where
-  -- The whole text
+module _ (p : List Command) (s : Bytes) (from : ℕ) (before : Bytes) where
+  -- All the rows
   abbrev Whole : Bytes → Type 0
-  Whole t = t ≡ header ++ rows-of p (split-lines s)
+  Whole t = t ≡ rows-of p (split-lines s)
 
-  pub writing-start : (K at place : ℕ) (l out : Bytes) → Sheet K s → split-lines s ≡ l ∷ lines-from s at → 1 ≤ at → at ≤ length s
-      → Put header 0 before out place → Writing p s before at 2 place out
-  writing-start K at place l out sheet e some inside put =
+  pub writing-start : (K at : ℕ) (l : Bytes) → Sheet K s → split-lines s ≡ l ∷ lines-from s at → 1 ≤ at → at ≤ length s → from ≤ 47
+      → Writing p s from before at 2 from before
+  writing-start K at l sheet e some inside header =
       let same : lines-from s at ≡ sheet .rest = cc (sheet .lines) in
-      let all : rows-of p (split-lines s) ≡ rows p (columns s) (lines-from s at) = rows-after p (split-lines s) l (lines-from s at) e in
       record {
         inside = inside;
-        text = header;
-        put = put;
-        whole = ap {B = Bytes} (λ t. header ++ t) (sym all);
+        text = [];
+        put = put-none from before;
+        whole = sym (rows-after p (split-lines s) l (lines-from s at) e);
         passes = subst (λ ls. rows-fault 1024 (length (columns s)) 2 ls ≡ none) (sym same) (sheet .rows);
-        few = omega (arith, put .counted);
+        few = omega arith;
         counted = omega arith;
       }
 
-  module _ (at n place next : ℕ) (l out : Bytes) (w : Writing p s before at n place out)
+  module _ (at n place next : ℕ) (l out : Bytes) (w : Writing p s from before at n place out)
       (e : lines-from s at ≡ l ∷ lines-from s next) where
     passing : rows-fault 1024 (length (columns s)) n (l ∷ lines-from s next) ≡ none
     passing = subst (λ ls. rows-fault 1024 (length (columns s)) n ls ≡ none) e (w .passes)
@@ -71,7 +69,7 @@ module _ (p : List Command) (s before : Bytes) where
     line-passes = none-first (values-fault 1024 (length (columns s)) n (values l)) later passing
 
     pub writing-next : (out′ : Bytes) (place′ : ℕ) → at < next → next ≤ length s → length (row p (columns s) l) ≤ 36
-        → Put (row p (columns s) l) place out out′ place′ → Writing p s before next (n + 1) place′ out′
+        → Put (row p (columns s) l) place out out′ place′ → Writing p s from before next (n + 1) place′ out′
     unfolding rows rows-fault
     writing-next out′ place′ more inside short put =
         let line = row p (columns s) l in
@@ -87,11 +85,11 @@ module _ (p : List Command) (s before : Bytes) where
           counted = omega (arith, w .counted);
         }
 
-  pub writing-end : (at n place : ℕ) (out : Bytes) → Writing p s before at n place out → length s ≤ at → length s ≤ 4096
-      → Printed (header ++ rows-of p (split-lines s)) before out place
+  pub writing-end : (at n place : ℕ) (out : Bytes) → Writing p s from before at n place out → length s ≤ at → length s ≤ 4096
+      → Put (rows-of p (split-lines s)) from before out place × (place ≤ 147467)
   unfolding rows split-lines
   writing-end at n place out w end size =
       let none-left : lines-from s at ≡ [] = ap split-lines (drop-of-length-le s {i = at} end) in
       let rest : Whole (w .text ++ []) = subst (λ ls. Whole (w .text ++ rows p (columns s) ls)) none-left (w .whole) in
       let all : Whole (w .text) = sym (append-nil (w .text)) ∙ rest in
-      record { put = subst (λ t. Put t 0 before out place) all (w .put); few = omega (arith, w .few, w .inside) }
+      (subst (λ t. Put t from before out place) all (w .put), omega (arith, w .few, w .inside))

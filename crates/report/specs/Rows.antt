@@ -1,18 +1,23 @@
 -- What a row of the report is, by the definitions of crate theory, and what the functions inside this crate take for granted.
 use mathlib.Core.Path.{_≡_}
+use mathlib.Core.Option.{none}
 use mathlib.Core.List.{List, _++_}
 use Prim.Native.Nat.{ℕ, _≤_}
 use Rattle.theory.specs.Basics.{present}
+use Rattle.theory.specs.Limits.{tool-capacity}
 use Rattle.theory.specs.Text.{Bytes, split-lines}
 use Rattle.theory.specs.ProgramText.{Command, variables, listed}
 use Rattle.theory.specs.Runs.{Outcome}
 use Rattle.theory.specs.Source as S
 use Rattle.theory.specs.Word as W
 use Rattle.theory.specs.Translation.{word-text}
-use Rattle.theory.specs.TurnedDown.{done, answer, read-list}
+use Rattle.theory.specs.TurnedDown.{done, answer, read-list, sheet-fault, names-of}
 use Rattle.theory.specs.RunTool.{tool-source, tool-word, header, rows-of, tool-fault, printed}
 use Rattle.theory.specs.declared.End.the-variants.{Spent}
 use Rattle.machine.specs.declared.answers.Ended as M
+use Rattle.source.specs.declared.Ended as R
+use Rattle.sheet.specs.Answers.{names-record}
+use Rattle.sheet.specs.declared.answers.Names.{Names}
 use Rattle.report.specs.declared.writing.Ended.{Ended}
 use Rattle.report.specs.declared.writing.Row.{Row}
 use Rattle.report.specs.Puts.{Put, Within}
@@ -29,6 +34,10 @@ abbrev pub word-ended : M.Ended → Ended
 word-ended (M.Ended.Ran e n) = record { end = e; steps = n }
 word-ended (M.Ended.Refused r) = record { end = Spent; steps = 0 }
 
+abbrev pub source-ended : R.Ended → Ended
+source-ended (R.Ended.Ran e n) = record { end = e; steps = n }
+source-ended (R.Ended.Refused r) = record { end = Spent; steps = 0 }
+
 -- What is printed of the two runs of a line
 unfoldable pub row-of : Outcome S.State → Outcome W.State → Row
 row-of s w = record {
@@ -37,11 +46,20 @@ row-of s w = record {
   first = s .state .values 0;
 }
 
--- A list that is accepted, the word of its program, and the number of its variables
-pub record Ready (list word : Bytes) (K : ℕ) : Type 0 where
+-- A list that is accepted, of a program of K variables
+pub record Listed (list : Bytes) (K : ℕ) : Type 0 where
   pub accepted : read-list list ≡ done (commands list)
-  pub translated : word ≡ word-text (commands list)
   pub named : K ≡ variables (commands list)
+
+-- and the word of its program
+pub record Ready (list word : Bytes) (K : ℕ) : Type 0 where
+  pub listed : Listed list K
+  pub translated : word ≡ word-text (commands list)
+
+-- A sheet that is accepted for a program of K variables, and its names
+pub record Given (sheet : Bytes) (names : Names) (K : ℕ) : Type 0 where
+  pub passes : sheet-fault tool-capacity K sheet ≡ none
+  pub columns : names ≡ names-record (names-of (split-lines sheet))
 
 -- The row of a program's runs from v
 pub record Ran (p : List Command) (v : ℕ → ℕ) (r : Row) : Type 0 where

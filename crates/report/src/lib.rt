@@ -1,4 +1,126 @@
 // The run tool's text (document 01, "Run sheet and run tool"): from a program's text and a sheet's to the whole of what is printed.
-mod fresh;
-mod rows;
-mod writing;
+mod fresh; // fresh.rt: the memory of a fresh word
+mod rows; // rows.rt: the runs of a row
+mod writing; // writing.rt: the parts of the text
+
+use program::Checked;
+use rows::run_row;
+use sheet::Names;
+use theory::Refusal;
+use translation::Translated;
+use writing::put_header;
+use writing::put_refusal;
+use writing::put_row;
+ghost use mathlib.Core.Path.{_≡_};
+ghost use mathlib.Core.List.{_++_};
+ghost use Rattle.theory.specs.Text.{split-lines};
+ghost use Rattle.theory.specs.TurnedDown.{lent-after};
+ghost use Rattle.theory.specs.RunTool as RunTool;
+ghost use Rattle.theory.specs.RunTool.{header, rows-of};
+ghost use Rattle.report.specs.Rows.{commands, Listed, Ready, Given, program-report, Printed};
+ghost use Rattle.report.specs.Answers.{reported, report-into};
+
+// The text has so many bytes, or does not fit into the output.
+pub enum Reported {
+    Done(usize),
+    Refused(Refusal),
+}
+
+impl Reported {
+    // Bytes that are enough for any report: the header's 47, and 36 for each row, of which there are 4,095 at most.
+    pub const MOST: usize = 147467;
+}
+
+// The header, and a line for each row of an accepted sheet.
+fn put_rows(
+    list: &[u8],
+    word: &[u8],
+    variables: usize,
+    sheet: &[u8],
+    names: Names,
+    out: &mut [u8],
+) -> usize
+    requires { ⌜ Ready (now list) (now word) variables × Given (now sheet) names variables ⌝ }
+    ensures { λ r. ⌜ Printed (header ++ rows-of (commands (now (list .entry))) (split-lines (now (sheet .entry))))
+        (now (out .entry)) (now (out .exit)) r ⌝ }
+{
+    let mut place = put_header(&mut *out);
+    let mut at = sheet::first_row(sheet);
+    let mut n: usize = 2;
+    while at < sheet.len() {
+        let line = sheet::row(sheet, names, 1024, n, at);
+        let values = line.values;
+        let row = run_row(list, word, variables, values);
+        place = put_row(&mut *out, place, row);
+        at = line.next;
+        n += 1;
+    }
+    place
+}
+
+// An accepted program and sheet: a word that is longer than the buffer is 19.
+fn put_translated(
+    list: &[u8],
+    variables: usize,
+    sheet: &[u8],
+    names: Names,
+    out: &mut [u8],
+) -> usize
+    requires { ⌜ Listed (now list) variables × Given (now sheet) names variables ⌝ }
+    ensures { λ r. ⌜ Printed (program-report (commands (now (list .entry))) (now (sheet .entry))) (now (out .entry)) (now (out .exit)) r ⌝ }
+{
+    let mut word = [0u8; 65536];
+    match translation::translate_list(list, &mut word) {
+        Translated::Refused(r) => put_refusal(out, r),
+        Translated::Done(size) => {
+            let end = size.symbols;
+            put_rows(list, &word[..end], variables, sheet, names, out)
+        }
+    }
+}
+
+// An accepted program: rules 16 to 18 of its sheet, and then the rows.
+fn put_accepted(list: &[u8], variables: usize, sheet: &[u8], out: &mut [u8]) -> usize
+    requires { ⌜ Listed (now list) variables ⌝ }
+    ensures { λ r. ⌜ Printed (program-report (commands (now (list .entry))) (now (sheet .entry))) (now (out .entry)) (now (out .exit)) r ⌝ }
+{
+    let found = sheet::check(sheet, variables, 1024);
+    let names = found.names;
+    let checked = found.checked;
+    match checked {
+        sheet::Checked::Refused(r) => put_refusal(out, r),
+        sheet::Checked::Accepted(_) => put_translated(list, variables, sheet, names, out),
+    }
+}
+
+// The text, put from the first byte of an output on: rules 1 to 8 come first.
+fn put_report(text: &[u8], sheet: &[u8], out: &mut [u8]) -> usize
+    ensures { λ r. ⌜ Printed (RunTool.report (now (text .entry)) (now (sheet .entry))) (now (out .entry)) (now (out .exit)) r ⌝ }
+{
+    let mut list = [0u8; 1536];
+    match program::read(text, &mut list) {
+        Checked::Refused(r) => put_refusal(out, r),
+        Checked::Accepted(p) => {
+            let end = 3 * p.lines;
+            put_accepted(&list[..end], p.variables, sheet, out)
+        }
+    }
+}
+
+// The report of a program's text and a sheet's, at the start of an output. Where the output may be too short the text is measured first.
+pub fn report(text: &[u8], sheet: &[u8], out: &mut [u8]) -> Reported
+    ensures { λ r. ⌜ r ≡ reported (report-into (now (out .entry)) (now (text .entry)) (now (sheet .entry))) ⌝ }
+    ensures { λ _. ⌜ now (out .exit)
+        ≡ lent-after (now (out .entry)) (report-into (now (out .entry)) (now (text .entry)) (now (sheet .entry))) ⌝ }
+{
+    if out.len() < Reported::MOST {
+        let mut nothing = [0u8; 1];
+        if out.len() < put_report(text, sheet, &mut nothing) {
+            return Reported::Refused(Refusal {
+                number: 19,
+                place: 0,
+            });
+        }
+    }
+    Reported::Done(put_report(text, sheet, out))
+}

@@ -1,6 +1,7 @@
 // The runs of a row: the word's from a fresh machine, and the source's from a fresh state of the same values.
 use crate::fresh::fill;
 use crate::writing::Ended;
+use crate::writing::Row;
 use theory::End;
 ghost use mathlib.Core.Path.{_≡_};
 ghost use mathlib.Core.List.{List};
@@ -9,7 +10,7 @@ ghost use Rattle.theory.specs.Translation.{word-text};
 ghost use Rattle.theory.specs.RunTool.{tool-word};
 ghost use Rattle.theory.specs.Claims.{Accepted};
 ghost use Rattle.report.specs.Fresh.{values-of, Starts};
-ghost use Rattle.report.specs.Rows.{word-ended, ended-of};
+ghost use Rattle.report.specs.Rows.{word-ended, source-ended, ended-of, commands, Ready, Ran};
 
 // How a word's run ended. A refusal does not come: a word of the translation passes every rule.
 fn of_word(ended: machine::Ended) -> Ended
@@ -41,4 +42,36 @@ fn run_word(word: &[u8], variables: usize, values: [u32; 32]) -> Ended
     let run = machine::run(m, &mut store, &mut lengths, at, word, 1000000);
     let ended = run.ended;
     of_word(ended)
+}
+
+// How a source's run ended. A refusal does not come: a fresh state of values within the capacity passes rule 9.
+fn of_source(ended: source::Ended) -> Ended
+    ensures { λ r. ⌜ r ≡ source-ended ended ⌝ }
+{
+    match ended {
+        source::Ended::Ran(end, steps) => Ended { end, steps },
+        source::Ended::Refused(_) => Ended {
+            end: End::Spent,
+            steps: 0,
+        },
+    }
+}
+
+// Both runs of a row.
+pub fn run_row(list: &[u8], word: &[u8], variables: usize, values: [u32; 32]) -> Row
+    requires { ⌜ Ready (now list) (now word) variables × Starts variables values ⌝ }
+    ensures { λ r. ⌜ Ran (commands (now (list .entry))) (values-of values) r ⌝ }
+{
+    let fresh = source::State::fresh(1024, values);
+    let run = source::run_list(list, fresh, 100000);
+    let ended = run.ended;
+    let state = run.state;
+    let last = state.values;
+    let source = of_source(ended);
+    let word = run_word(word, variables, values);
+    Row {
+        source,
+        word,
+        first: last[0],
+    }
 }

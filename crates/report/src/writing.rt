@@ -121,7 +121,7 @@ pub fn put_row(out: &mut [u8], place: usize, row: Row) -> usize
 
 // "On a refusal it prints only `refused`, the number and the place".
 pub fn put_refusal(out: &mut [u8], refusal: Refusal) -> usize
-    ensures { λ r. ⌜ Put (refusal-line refusal) 0 (now (out .entry)) (now (out .exit)) r ⌝ }
+    ensures { λ r. ⌜ Few 50 (refusal-line refusal) 0 (now (out .entry)) (now (out .exit)) r ⌝ }
 {
     let number = put_text(&mut *out, 0, b"refused ");
     let place = put_field(&mut *out, number, refusal.number as usize, 32);

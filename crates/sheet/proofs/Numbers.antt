@@ -29,7 +29,7 @@ high-digit b h = go (leb 48 b)
     go true = lt-leb b 57 h
     go false = refl
 
-pub digit : (b : ℕ) → 48 ≤ b → b ≤ 57 → is-digit b ≡ true
+digit : (b : ℕ) → 48 ≤ b → b ≤ 57 → is-digit b ≡ true
 digit b h l = rw (le-leb 48 b h, le-leb b 57 l)
 
 all-fails : (f : ℕ → Bool) (l : List ℕ) (i : ℕ) → i < length l → f (getD l i 0) ≡ false → all f l ≡ false

@@ -28,21 +28,21 @@ use Rattle.translation.proofs.Sites.{list-length}
 -- It was refused; it has no room; it is written
 pub answered-refused : (A : Answer (List Command)) (r : Refusal) (out : List ℕ) → A ≡ refused r → Answered A out out (T.Refused r)
 unfolding translate-into lent-after
-answered-refused A r out e = record { answers = rw e; output = rw e }
+answered-refused A r out e = record { answers = rw e; writes = rw e }
 
 pub answered-short : (A : Answer (List Command)) (p : List Command) (out : List ℕ) → A ≡ done p → length out < length (word-text p)
     → Answered A out out (T.Refused (record { number = 19; place = 0 }))
 unfolding translate-into lent-after rule-19
 answered-short A p out e h =
     let t : _ = lt-leb (length (word-text p)) (length out) h in
-    record { answers = rw (e, t); output = rw (e, t) }
+    record { answers = rw (e, t); writes = rw (e, t) }
 
 pub answered-done : (A : Answer (List Command)) (p : List Command) (out out′ : List ℕ) (s : Size) → A ≡ done p
     → length (word-text p) ≤ length out → out′ ≡ lent-after out (done (word-text p)) → s ≡ size-of p → Answered A out out′ (T.Done s)
 unfolding translate-into rule-19
 answered-done A p out out′ s e h o z =
     let t : _ = le-leb (length (word-text p)) (length out) h in
-    record { answers = rw (e, t, z); output = rw (e, t) o }
+    record { answers = rw (e, t, z); writes = rw (e, t) o }
 
 -- What the check of a list, and the reading of a text into one, tell of the program
 
@@ -89,7 +89,13 @@ module _ (t : Bytes) (lent : List ℕ) (room : 1536 ≤ length lent) where
       let part : take (3 * q .lines) list ≡ list-of p =
       rw (h, read-as-text, e) (take-at (list-of p) (drop (length (list-of p)) lent) (3 * q .lines) l) in
       let read : read-list (take (3 * q .lines) list) ≡ done p = rw part (lists-round-trip .0 p ok) in
-      record { program = p; text = e; part = read; known = known (take (3 * q .lines) list) p q read f; few = omega (arith, list-length p, short p ok) }
+      record {
+        program = p;
+        text = e;
+        part = read;
+        known = known (take (3 * q .lines) list) p q read f;
+        few = omega (arith, list-length p, short p ok);
+      }
 
   pub taken : {c : Checked} (q : Program) (list : List ℕ) → c ≡ P.checked (P.read-into lent t) → c ≡ C.Accepted q
       → list ≡ lent-after lent (mapped list-of (P.read-into lent t)) → Taken q list

@@ -1,21 +1,22 @@
 -- Counting a block's code, one line or pair at a time, and a pair's code around that of its body.
 use mathlib.Core.Path.{_≡_, refl, sym, ap, _∙_}
 use mathlib.Core.Bool.{true, false}
-use mathlib.Core.List.{List, [], _∷_, _++_}
+use mathlib.Core.List.{List, [], _++_}
 use Prim.Native.Nat.{ℕ, _+_, _≤_, _<_}
 use native.Mathlib.Omega.{arith}
 use lib.ListN.{length, length-append}
-use Rattle.theory.specs.ProgramText.{Block, lines}
+use Rattle.theory.specs.Limits
+use Rattle.theory.specs.ProgramText.{lines}
 use Rattle.theory.specs.Source.{deeper}
 use Rattle.theory.specs.Word.{Instruction}
 use Rattle.theory.specs.Translation.{plain-code, code}
-use Rattle.theory.proofs.Sizes.{weight-append}
+use Rattle.theory.proofs.Sizes.{weight, weight-append}
 use Rattle.translation.specs.Pieces.{plain-of, kind-of, Small}
-use Rattle.translation.specs.Sites.{block-at, goes-on, first, Site, weight, Counted, Counts, join, before, after, Roomy, Around}
+use Rattle.translation.specs.Sites.{block-at, goes-on, first, Site, Counted, Counts, join, before, after, Roomy, Around}
 use Rattle.translation.specs.declared.lines.Line.{Line}
 use Rattle.translation.specs.declared.sizes.Extent.{Extent}
 use Rattle.translation.proofs.Sites.{Bounds, bounds}
-use Rattle.translation.proofs.Walks.{Passed, passed-none, passed-more, passed-all, Here, here, PlainHere, PairHere}
+use Rattle.translation.proofs.Walks.{Passed, passed-none, passed-more, passed-all, here, PlainHere, PairHere}
 
 module _ (list : List ℕ) (count K d at : ℕ) where
   -- What an extent counts is what was passed from line `at` to its line
@@ -48,8 +49,8 @@ module _ (list : List ℕ) (count K d at : ℕ) where
 
   -- The sums of that step do not wrap, and the step goes on
   pub record Steps (e f : Extent) : Type 0 where
-    pub instructions : e .instructions + f .instructions ≤ 6144
-    pub symbols : e .symbols + f .symbols ≤ 325120
+    pub instructions : e .instructions + f .instructions ≤ Limits.most-instructions
+    pub symbols : e .symbols + f .symbols ≤ Limits.most-symbols
     pub below : e .next < count
     pub onward : e .next < f .next
 
@@ -59,10 +60,11 @@ module _ (list : List ℕ) (count K d at : ℕ) where
       let b : Bounds list count K d at = bounds list count K d at s in
       let i : _ = here list count K d (e .next) (c .passed .site) g in
       let r : List Instruction = code K d (block-at list (e .next)) in
+      let lengths : _ = ap length (c .passed .code) ∙ length-append (c .code) r in
+      let weights : _ = ap weight (c .passed .code) ∙ weight-append (c .code) r in
       record {
-        instructions =
-            omega (arith, b .instructions, i .instructions, c .counted .instructions, h .instructions, ap length (c .passed .code), length-append (c .code) r);
-        symbols = omega (arith, b .symbols, i .symbols, c .counted .symbols, h .symbols, ap weight (c .passed .code), weight-append (c .code) r);
+        instructions = omega (arith, b .instructions, i .instructions, c .counted .instructions, h .instructions, lengths);
+        symbols = omega (arith, b .symbols, i .symbols, c .counted .symbols, h .symbols, weights);
         below = i .below;
         onward = omega (arith, i .passes, h .ended);
       }
@@ -78,7 +80,8 @@ module _ (list : List ℕ) (count K d at : ℕ) where
 
 -- The line or pair at a site
 module _ (list : List ℕ) (count K d at : ℕ) (s : Site list count K d at) (g : goes-on (block-at list at) ≡ true) (l : Line) where
-  pub plain-asks : PlainHere list count K d at s g l → Small l K × (weight (plain-code K (plain-of l)) ≤ 325120) × (at < 512)
+  pub plain-asks : PlainHere list count K d at s g l
+      → Small l K × (weight (plain-code K (plain-of l)) ≤ Limits.most-symbols) × (at < Limits.most-lines)
   plain-asks p =
       let b : Bounds list count K d at = bounds list count K d at s in
       let h : _ = here list count K d at s g in
@@ -108,7 +111,7 @@ module _ (list : List ℕ) (count K d at : ℕ) (s : Site list count K d at) (g 
         let a : List Instruction = after K d l body in
         omega (arith, ap weight pair-code, weight-append b (inner ++ a), weight-append inner a, c .symbols)
 
-    pub pair-asks : Small l K × (d ≤ 16) × Roomy K d l body
+    pub pair-asks : Small l K × (d ≤ Limits.most-open) × Roomy K d l body
     pair-asks =
         let b : Bounds list count K d at = bounds list count K d at s in
         let i : Bounds list count K n (at + 1) = bounds list count K n (at + 1) (rw m (p .site)) in
@@ -127,8 +130,9 @@ module _ (list : List ℕ) (count K d at : ℕ) (s : Site list count K d at) (g 
     pair-counts e a =
         let b : List Instruction = before K d l body in
         let f : List Instruction = after K d l body in
+        let lengths : _ = ap length pair-code ∙ length-append b (inner ++ f) in
         record {
-          instructions = omega (arith, a .instructions, c .instructions, ap length pair-code, length-append b (inner ++ f), length-append inner f);
+          instructions = omega (arith, a .instructions, c .instructions, lengths, length-append inner f);
           symbols = a .symbols ∙ sym pair-weight;
           ended = omega (arith, a .ended, c .ended, p .line);
         }

@@ -1,12 +1,11 @@
 -- Sites: the lines of a list and the block that begins at one of them; a pair's body and what follows a line or pair are sites too; and
 -- what is counted at a site is small.
-use mathlib.Core.Path.{_≡_, refl, sym, ap, ap₂, _∙_}
+use mathlib.Core.Path.{_≡_, refl, sym, ap, _∙_}
 use mathlib.Core.Logic.{_⊎_, inl, inr, ⊎-elim}
 use mathlib.Core.Bool.{true, false, false≢true}
-use mathlib.Core.List.{List, [], _∷_, _++_, map, append-assoc, append-nil}
-use Prim.Native.Nat.{ℕ, zero, suc, _+_, _*_, _≤_, _<_, max}
+use mathlib.Core.List.{List, [], _∷_, _++_, append-assoc, append-nil}
+use Prim.Native.Nat.{ℕ, zero, suc, _+_, _*_, _≤_, _<_}
 use native.Mathlib.Nat.{add-zero, mul-le-mul}
-use native.Mathlib.Numerals.{add-one}
 use native.Mathlib.Omega.{arith}
 use lib.ListN.{length, getD, drop, length-append, length-drop, drop-of-length-le}
 use lib.Seq.{getD-drop, drop-drop, drop-nil, drop-append-seam}
@@ -15,14 +14,13 @@ use Rattle.theory.specs.ProgramText.{Plain, clear, increment, copy, Kind, loop,
 use Rattle.theory.specs.ProgramText.{variables, Block, end, line, pair, lines, Blocks, opened-by, blocks, block-of}
 use Rattle.theory.specs.Source.{deeper}
 use Rattle.theory.specs.Translation.{code}
-use Rattle.theory.specs.TurnedDown.{done, read-list}
 use Rattle.theory.specs.Claims.{Accepted}
 use Rattle.theory.proofs.Nesting.{nest, reads-accepted, short, few-variables, well-nested, shallow}
-use Rattle.theory.proofs.Sizes.{code-length, code-weight}
+use Rattle.theory.proofs.Sizes.{weight, code-length, code-weight}
 use Rattle.theory.proofs.Lists.{lists-round-trip}
 use Rattle.translation.specs.Pieces.{numbers-at, Says}
 use Rattle.translation.specs.declared.lines.Line.{Line}
-use Rattle.translation.specs.Sites.{program-of, block-at, goes-on, first, rest, Accepts, Site, weight}
+use Rattle.translation.specs.Sites.{program-of, block-at, goes-on, first, rest, Accepts, Known, Site}
 
 -- An accepted list has three numbers a line
 
@@ -78,7 +76,8 @@ module _ (list : List ℕ) (count : ℕ) (a : Accepts list count) where
 
 -- A block is the one that its lines begin with, where those that follow end or close a pair
 
-blocks-begin : (b : Block) (q : List Command) → blocks q .first ≡ end → blocks (lines b ++ q) ≡ record { first = b; later = blocks q .later }
+blocks-begin : (b : Block) (q : List Command) → blocks q .first ≡ end
+    → blocks (lines b ++ q) ≡ record { first = b; later = blocks q .later }
 unfolding blocks
 blocks-begin end q e = ap {B = Blocks} (λ x. record { first = x; later = blocks q .later }) e
 blocks-begin (line c b) q e = ap {B = Blocks} (λ r. record { first = line c (r .first); later = r .later }) (blocks-begin b q e)
@@ -172,7 +171,8 @@ nest-rest end = omega arith
 nest-rest (line c b) = omega arith
 nest-rest (pair k i body b) = omega arith
 
-nest-body : (k : Kind) (d i : ℕ) (body b : Block) → d + nest (pair k i body b) ≤ 16 → deeper k d + nest body ≤ 16
+nest-body : (k : Kind) (d i : ℕ) (body b : Block) → d + nest (pair k i body b) ≤ Limits.most-open
+    → deeper k d + nest body ≤ Limits.most-open
 nest-body loop d i body b h = omega arith
 nest-body while d i body b h = omega arith
 
@@ -182,12 +182,13 @@ pub record Stands (list : List ℕ) (count K d at : ℕ) (b : Block) : Type 0 wh
   pub block : block-at list at ≡ b
 
 module _ (list : List ℕ) (count K : ℕ) where
-  stands : (d at : ℕ) (b : Block) (later : List Command) → Accepts list count → K ≡ variables (program-of list) → at ≤ count
-      → drop at (program-of list) ≡ lines b ++ later → blocks later .first ≡ end → d + nest b ≤ Limits.most-open → Stands list count K d at b
-  stands d at b later a n w h s r =
+  stands : (d at : ℕ) (b : Block) (later : List Command) → Known list count K → at ≤ count
+      → drop at (program-of list) ≡ lines b ++ later → blocks later .first ≡ end → d + nest b ≤ Limits.most-open
+      → Stands list count K d at b
+  stands d at b later k w h s r =
       let e : block-at list at ≡ b = block-begins list at b later s h in
       record {
-        site = record { accepts = a; names = n; within = w; later = later; split = rw e h; stops = s; room = rw e r };
+        site = record { known = k; within = w; later = later; split = rw e h; stops = s; room = rw e r };
         block = e;
       }
 
@@ -196,19 +197,19 @@ module _ (list : List ℕ) (count K : ℕ) where
       omega (
         arith,
         s .within,
-        s .accepts .counts,
+        s .known .accepts .counts,
         length-drop at (program-of list),
         ap length (s .split),
         length-append (lines (block-at list at)) (s .later),
       )
 
-  pub whole-site : Accepts list count → K ≡ variables (program-of list) → Stands list count K 0 0 (block-of (program-of list))
+  pub whole-site : Known list count K → Stands list count K 0 0 (block-of (program-of list))
   unfolding blocks
-  whole-site a n =
+  whole-site k =
       let p : List Command = program-of list in
-      let ok : Accepted p = accepted list count a in
+      let ok : Accepted p = accepted list count (k .accepts) in
       let e : p ≡ lines (block-of p) ++ [] = sym (append-nil (lines (block-of p)) ∙ well-nested p ok) in
-      stands 0 0 (block-of p) [] a n (omega arith) e refl (omega (arith, shallow p ok))
+      stands 0 0 (block-of p) [] k (omega arith) e refl (omega (arith, shallow p ok))
 
   pub body-site : (d at : ℕ) → Site list count K d at → (k : Kind) (i : ℕ) (body b : Block) → block-at list at ≡ pair k i body b
       → Stands list count K (deeper k d) (at + 1) body
@@ -218,8 +219,8 @@ module _ (list : List ℕ) (count K : ℕ) where
       let here : drop at (program-of list) ≡ opens k i ∷ (lines body ++ q) =
       s .split ∙ (ap (λ x. lines x ++ s .later) e ∙ ap {B = List Command} (λ l. opens k i ∷ l) (append-assoc (lines body) _ _)) in
       let below : at + 1 ≤ count = omega (arith, ends d at s, ap (λ x. length (lines x)) e) in
-      let room : d + nest (pair k i body b) ≤ 16 = rw e at (s .room) in
-      stands (deeper k d) (at + 1) body q (s .accepts) (s .names) below (sym (drop-drop 1 at (program-of list)) ∙ ap (drop 1) here) refl
+      let room : d + nest (pair k i body b) ≤ Limits.most-open = rw e at (s .room) in
+      stands (deeper k d) (at + 1) body q (s .known) below (sym (drop-drop 1 at (program-of list)) ∙ ap (drop 1) here) refl
       (nest-body k d i body b room)
 
   pub rest-site : (d at n : ℕ) → Site list count K d at → n ≡ at + length (lines (first (block-at list at)))
@@ -232,7 +233,7 @@ module _ (list : List ℕ) (count K : ℕ) where
       let there : drop (at + length f) (program-of list) ≡ lines (rest b) ++ s .later =
       sym (drop-drop (length f) at (program-of list)) ∙ (ap (drop (length f)) here ∙ drop-append-seam f _) in
       let l : length (lines b) ≡ length f + length (lines (rest b)) = ap length (lines-first b) ∙ length-append f _ in
-      rw e (stands d (at + length f) (rest b) (s .later) (s .accepts) (s .names) (omega (arith, ends d at s)) there (s .stops)
+      rw e (stands d (at + length f) (rest b) (s .later) (s .known) (omega (arith, ends d at s)) there (s .stops)
       (omega (arith, s .room, nest-rest b)))
 
 -- What is counted at a site is small
@@ -246,23 +247,27 @@ variables-front : (p q : List Command) → variables p ≤ variables (p ++ q)
 variables-front [] q = omega arith
 variables-front (c ∷ p) q = omega (arith, variables-front p q)
 
+-- As many variables, or as high an index plus 1, as are allowed
+abbrev pub Few : ℕ → Type 0
+Few n = n ≤ suc Limits.most-index
+
 pub record Bounds (list : List ℕ) (count K d at : ℕ) : Type 0 where
-  pub few-lines : count ≤ 512
-  pub few-variables : K ≤ 32
-  pub shallow : d ≤ 16
-  pub low : variables (lines (block-at list at)) ≤ 32
+  pub few-lines : count ≤ Limits.most-lines
+  pub few-variables : Few K
+  pub shallow : d ≤ Limits.most-open
+  pub low : Few (variables (lines (block-at list at)))
   pub ends : at + length (lines (block-at list at)) ≤ count
-  pub instructions : length (code K d (block-at list at)) ≤ 6144
-  pub symbols : weight (code K d (block-at list at)) ≤ 325120
+  pub instructions : length (code K d (block-at list at)) ≤ Limits.most-instructions
+  pub symbols : weight (code K d (block-at list at)) ≤ Limits.most-symbols
 
 pub bounds : (list : List ℕ) (count K d at : ℕ) → Site list count K d at → Bounds list count K d at
 bounds list count K d at s =
     let p : List Command = program-of list in
     let b : Block = block-at list at in
-    let ok : Accepted p = accepted list count (s .accepts) in
-    let few : count ≤ 512 = omega (arith, s .accepts .counts, short p ok) in
-    let high : K ≤ 32 = omega (arith, s .names, few-variables p ok) in
-    let named : variables (lines b) ≤ 32 =
+    let ok : Accepted p = accepted list count (s .known .accepts) in
+    let few : count ≤ Limits.most-lines = omega (arith, s .known .accepts .counts, short p ok) in
+    let high : Few K = omega (arith, s .known .names, few-variables p ok) in
+    let named : Few (variables (lines b)) =
     omega (arith, few-variables p ok, variables-drop at p, ap variables (s .split), variables-front (lines b) (s .later)) in
     let short-enough : length (lines b) ≤ 512 = omega (arith, ends list count K d at s) in
     let light : weight (code K d b) ≤ length (lines b) * (251 + 24 * nest b) =
@@ -298,7 +303,7 @@ pub record Paired (list : List ℕ) (at : ℕ) : Type 0 where
 module _ (list : List ℕ) (count K d at : ℕ) (s : Site list count K d at) (g : goes-on (block-at list at) ≡ true) where
   says-first : (c : Command) (p : List Command) (b : Block) → block-at list at ≡ b → lines b ≡ c ∷ p → Says (numbers-at list at) c
   says-first c p b e l =
-      numbers-of-line list count (s .accepts) at c (p ++ s .later) (s .split ∙ ap (λ x. x ++ s .later) (ap lines e ∙ l))
+      numbers-of-line list count (s .known .accepts) at c (p ++ s .later) (s .split ∙ ap (λ x. x ++ s .later) (ap lines e ∙ l))
 
   pub plain-here : (numbers-at list at) .kind ≤ 3 → Plainly list at
   plain-here h = go (block-at list at) refl

@@ -1,24 +1,24 @@
 -- A walk through a block, one line or pair at a time: its code is that of what was passed and of what remains; and the code of the line or
 -- pair at a site, by the numbers of its line.
-use mathlib.Core.Path.{_≡_, refl, sym, ap, ap₂, _∙_}
+use mathlib.Core.Path.{_≡_, refl, sym, ap, _∙_}
 use mathlib.Core.Bool.{true, false, true≢false}
 use mathlib.Core.List.{List, [], _∷_, _++_, append-assoc, append-nil}
 use Prim.Native.Nat.{ℕ, _+_, _*_, _≤_, _<_}
 use native.Mathlib.Omega.{arith}
 use lib.ListN.{length, length-append}
-use Rattle.theory.specs.ProgramText.{Plain, clear, increment, copy, Kind, loop, while, Command, plain, opens, closes, variables}
+use Rattle.theory.specs.Limits
+use Rattle.theory.specs.ProgramText.{Plain, clear, increment, copy, Kind, loop, while, plain, opens, closes, variables}
 use Rattle.theory.specs.ProgramText.{Block, end, line, pair, lines}
 use Rattle.theory.specs.Source.{deeper}
 use Rattle.theory.specs.Word.{Instruction}
-use Rattle.theory.specs.Translation.{plain-code, before-body, after-body, code}
-use Rattle.theory.proofs.Sizes.{weight-append}
-use Rattle.translation.specs.Pieces.{numbers-at, Says, plain-of, kind-of, Small}
-use Rattle.translation.specs.Sites.{block-at, goes-on, first, rest, Site, weight, Counted, Counts, Around, Roomy}
-use Rattle.translation.specs.Sites as S
+use Rattle.theory.specs.Translation.{plain-code, before-body, code}
+use Rattle.theory.proofs.Sizes.{weight, weight-append}
+use Rattle.translation.specs.Pieces.{numbers-at, Says, plain-of, kind-of, Small, front, back}
+use Rattle.translation.specs.Sites.{block-at, goes-on, first, rest, Site}
 use Rattle.translation.specs.declared.lines.Line.{Line}
-use Rattle.translation.specs.declared.sizes.Extent.{Extent}
 use Rattle.translation.proofs.Tables.{plain-says, kind-says}
-use Rattle.translation.proofs.Sites.{Bounds, bounds, Stands, body-site, rest-site, Plainly, Paired, plain-here, pair-here, numbers-count}
+use Rattle.translation.proofs.Sites.{numbers-count, Stands, body-site, rest-site, Few, Bounds, bounds}
+use Rattle.translation.proofs.Sites.{Plainly, Paired, plain-here, pair-here}
 
 code-first : (K d : ℕ) (b : Block) → code K d b ≡ code K d (first b) ++ code K d (rest b)
 unfolding code
@@ -26,7 +26,8 @@ code-first K d end = refl
 code-first K d (line c b) = rw (append-nil (plain-code K c))
 code-first K d (pair k i body b) =
     let inner : List Instruction = code K (deeper k d) body in
-    sym (append-assoc (before-body K d k i (length inner)) _ _ ∙ ap (λ w. before-body K d k i (length inner) ++ w) (append-assoc inner _ _))
+    let before : List Instruction = before-body K d k i (length inner) in
+    sym (append-assoc before _ _ ∙ ap (λ w. before ++ w) (append-assoc inner _ _))
 
 lines-first : (b : Block) → length (lines b) ≡ length (lines (first b)) + length (lines (rest b))
 lines-first end = refl
@@ -51,10 +52,11 @@ module _ (list : List ℕ) (count K d at : ℕ) where
   passed-more next n w p e =
       let b : Block = block-at list next in
       let r : Stands list count K d n (rest b) = rest-site list count K d next n (p .site) e in
+      let split : code K d b ≡ code K d (first b) ++ code K d (block-at list n) = rw (r .block) (code-first K d b) in
       record {
         site = r .site;
         onward = omega (arith, p .onward);
-        code = p .code ∙ (ap (λ u. w ++ u) (code-first K d b ∙ ap (λ x. code K d (first b) ++ code K d x) (sym (r .block))) ∙ sym (append-assoc w _ _));
+        code = p .code ∙ (ap (λ u. w ++ u) split ∙ sym (append-assoc w _ _));
         line = omega (arith, p .line, lines-first b, ap (λ x. length (lines x)) (r .block));
       }
 
@@ -78,7 +80,7 @@ module _ (list : List ℕ) (count K d at : ℕ) where
 
 -- The line or pair at a site, by the numbers of its line
 
-variables-line : (l : Line) (K : ℕ) (c : Plain) (b : Block) → Says l (plain c) → variables (lines (line c b)) ≤ 32 → K ≤ 32 → Small l K
+variables-line : (l : Line) (K : ℕ) (c : Plain) (b : Block) → Says l (plain c) → Few (variables (lines (line c b))) → Few K → Small l K
 variables-line l K (clear i) b s h k =
     let x : l .index ≡ i = cc in
     let y : l .source ≡ 0 = cc in
@@ -96,8 +98,8 @@ opens-index : (l : Line) (k : Kind) (i : ℕ) → Says l (opens k i) → (l .ind
 opens-index l loop i s = (cc, cc)
 opens-index l while i s = (cc, cc)
 
-variables-pair : (l : Line) (K : ℕ) (k : Kind) (i : ℕ) (body b : Block) → Says l (opens k i) → variables (lines (pair k i body b)) ≤ 32 → K ≤ 32
-    → Small l K
+variables-pair : (l : Line) (K : ℕ) (k : Kind) (i : ℕ) (body b : Block) → Says l (opens k i) → Few (variables (lines (pair k i body b)))
+    → Few K → Small l K
 variables-pair l K k i body b s h v =
     let x : _ = opens-index l k i s in
     record { index = omega (arith, x .0); source = omega (arith, x .1); variables = v }
@@ -126,7 +128,7 @@ module _ (list : List ℕ) (count K d at : ℕ) (s : Site list count K d at) (g 
       let low : at < count = omega (arith, lines-first b, bounds list count K d at s .ends) in
       record {
         below = low;
-        numbers = omega (arith, numbers-count list count (s .accepts));
+        numbers = omega (arith, numbers-count list count (s .known .accepts));
         within = omega (arith, lines-first b, bounds list count K d at s .ends);
         passes = x;
         instructions = omega (arith, ap length (code-first K d b), length-append f r);
@@ -146,7 +148,7 @@ module _ (list : List ℕ) (count K d at : ℕ) (s : Site list count K d at) (g 
       go p =
           let n : Line = numbers-at list at in
           let b : Bounds list count K d at = bounds list count K d at s in
-          let low : variables (lines (line (p .command) (p .after))) ≤ 32 = rw (p .block) at (b .low) in
+          let low : Few (variables (lines (line (p .command) (p .after)))) = rw (p .block) at (b .low) in
           record {
             small = variables-line n K (p .command) (p .after) (p .says) low (b .few-variables);
             code = rw (p .block, plain-says n (p .command) (p .says)) (append-nil (plain-code K (p .command)));
@@ -160,7 +162,7 @@ module _ (list : List ℕ) (count K d at : ℕ) (s : Site list count K d at) (g 
     pub code :
         let inner = code K (deeper (kind-of (l .kind)) d) (block-at list (at + 1)) in
         let m = length inner in
-        code K d (first (block-at list at)) ≡ before-body K d (kind-of (l .kind)) (l .index) m ++ (inner ++ (after-body (kind-of (l .kind)) m ∷ []))
+        code K d (first (block-at list at)) ≡ front K d l m ++ (inner ++ back (l .kind) m)
     pub line : length (lines (first (block-at list at))) ≡ length (lines (block-at list (at + 1))) + 2
 
   pub pair-at : (l : Line) → l ≡ numbers-at list at → 3 < l .kind → PairHere l
@@ -171,7 +173,7 @@ module _ (list : List ℕ) (count K d at : ℕ) (s : Site list count K d at) (g 
       go p =
           let n : Line = numbers-at list at in
           let b : Bounds list count K d at = bounds list count K d at s in
-          let low : variables (lines (pair (p .kind) (p .index) (p .body) (p .after))) ≤ 32 = rw (p .block) at (b .low) in
+          let low : Few (variables (lines (pair (p .kind) (p .index) (p .body) (p .after)))) = rw (p .block) at (b .low) in
           let k : kind-of (n .kind) ≡ p .kind = kind-says n (p .kind) (p .index) (p .says) in
           let inside : _ = body-site list count K d at s (p .kind) (p .index) (p .body) (p .after) (p .block) in
           record {

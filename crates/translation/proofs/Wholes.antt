@@ -1,29 +1,27 @@
 -- The word of a whole list: F1 and the code of the block that begins at its first line.
-use mathlib.Core.Path.{_≡_, refl, sym, ap, _∙_}
+use mathlib.Core.Path.{_≡_, sym, ap, _∙_}
 use mathlib.Core.List.{List, [], _∷_, _++_}
 use Prim.Native.Nat.{ℕ, _+_, _≤_}
-use native.Mathlib.Nat.{zero-add}
 use native.Mathlib.Omega.{arith}
-use lib.ListN.{length, take, drop}
-use lib.Seq.{sets, sets-eq}
-use Rattle.theory.specs.ProgramText.{Command, variables, Block, lines, block-of}
+use lib.ListN.{length}
+use Rattle.theory.specs.ProgramText.{Command, variables, lines, block-of}
 use Rattle.theory.specs.Word.{Instruction, forward, table-of, spell}
 use Rattle.theory.specs.Translation.{code, word, word-of, word-text}
 use Rattle.theory.specs.TurnedDown.{done, lent-after}
 use Rattle.theory.proofs.Nesting.{well-nested}
-use Rattle.theory.proofs.Sizes.{bytes-length}
+use Rattle.theory.proofs.Sizes.{weight, bytes-length}
 use Rattle.translation.specs.Answers.{size-of}
-use Rattle.translation.specs.Sites.{program-of, block-at, Known, Site, weight, Counts, text, Put, Writes}
-use Rattle.translation.specs.declared.Size.{Size}
+use Rattle.program.specs.Puts.{Put}
+use Rattle.translation.specs.Sites.{program-of, block-at, Known, Site, Counts, text, Writes}
 use Rattle.translation.specs.declared.sizes.Extent.{Extent}
 use Rattle.translation.specs.declared.writing.Spot.{Spot}
 use Rattle.translation.proofs.Sites.{accepted, Stands, whole-site, Bounds, bounds}
-use Rattle.translation.proofs.Puts.{put-then, put-length, text-length}
+use Rattle.program.proofs.Puts.{put-then, sets-front}
 use Rattle.translation.proofs.Written.{words-append}
 
 module _ (list : List ℕ) (count K : ℕ) (k : Known list count K) where
   stands : Stands list count K 0 0 (block-of (program-of list))
-  stands = whole-site list count K (k .accepts) (k .names)
+  stands = whole-site list count K k
 
   pub site : Site list count K 0 0
   site = stands .site
@@ -60,4 +58,4 @@ module _ (list : List ℕ) (count K : ℕ) (k : Known list count K) where
       let whole : T ≡ text (record { kind = 3; operand = 1 } ∷ []) ++ text (table-of c) =
       ap (λ u. text (table-of u)) word-is ∙ words-append (forward 1 ∷ []) c in
       let put : Put T 0 out out″ (s .place) = rw whole (put-then f (w .put)) in
-      put .wrote ∙ (rw zero-add at (sets-eq T out 0 (omega arith)))
+      put .wrote ∙ sets-front out T r

@@ -1,25 +1,27 @@
 -- Writing a block's code, one line or pair at a time, and a pair's code around that of its body.
-use mathlib.Core.Path.{_≡_, refl, sym, ap, _∙_}
+use mathlib.Core.Path.{_≡_, sym, ap, _∙_}
 use mathlib.Core.Bool.{true, false}
-use mathlib.Core.List.{List, [], _∷_, _++_}
+use mathlib.Core.List.{List, [], _++_}
 use mathlib.Core.List as L
 use Prim.Native.Nat.{ℕ, _+_, _≤_, _<_}
 use native.Mathlib.Omega.{arith}
-use lib.ListN.{length, length-append}
-use Rattle.theory.specs.ProgramText.{lines}
+use lib.ListN.{length}
+use Rattle.theory.specs.Limits
 use Rattle.theory.specs.Source.{deeper}
 use Rattle.theory.specs.Word.{Instruction, entry-of, table-of, spell-entries}
 use Rattle.theory.specs.Translation.{plain-code, code}
-use Rattle.theory.proofs.Sizes.{weight-append}
+use Rattle.theory.proofs.Sizes.{weight, weight-append}
 use Rattle.translation.specs.Pieces.{plain-of, kind-of, Small}
-use Rattle.translation.specs.Sites.{block-at, goes-on, first, Site, weight, Counts, before, after, text, Put, Wrote, Writes}
+use Rattle.program.specs.Puts.{Put}
+use Rattle.translation.specs.Sites.{block-at, goes-on, first, Site, Counts, before, after, text, Wrote, Writes}
 use Rattle.translation.specs.declared.lines.Line.{Line}
 use Rattle.translation.specs.declared.sizes.Extent.{Extent}
 use Rattle.translation.specs.declared.writing.Spot.{Spot}
 use Rattle.translation.proofs.Sites.{bounds}
 use Rattle.translation.proofs.Walks.{Passed, passed-none, passed-more, passed-all, here, PlainHere, PairHere}
 use Rattle.translation.proofs.Counting.{pair-code, pair-weight, pair-asks}
-use Rattle.translation.proofs.Puts.{put-nothing, put-then, put-length, text-append, text-length}
+use Rattle.program.proofs.Puts.{put-then, put-length}
+use Rattle.translation.proofs.Puts.{put-nothing, text-append, text-length}
 
 -- The text of some instructions, and of more
 pub words-append : (u w : List Instruction) → text (table-of (u ++ w)) ≡ text (table-of u) ++ text (table-of w)
@@ -71,7 +73,7 @@ module _ (list : List ℕ) (count K d at place : ℕ) (start : List ℕ) where
 -- The line or pair at a site
 module _ (list : List ℕ) (count K d at : ℕ) (s : Site list count K d at) (g : goes-on (block-at list at) ≡ true) (l : Line) where
   pub plain-room : PlainHere list count K d at s g l → (place size : ℕ) → place + weight (code K d (first (block-at list at))) ≤ size
-      → Small l K × (at < 512) × (place + weight (plain-code K (plain-of l)) ≤ size)
+      → Small l K × (at < Limits.most-lines) × (place + weight (plain-code K (plain-of l)) ≤ size)
   plain-room p place size r =
       let b : _ = bounds list count K d at s in
       let h : _ = here list count K d at s g in
@@ -94,7 +96,8 @@ module _ (list : List ℕ) (count K d at : ℕ) (s : Site list count K d at) (g 
     sum : weight (code K d (first (block-at list at))) ≡ weight front + weight body + weight (after K d l size)
     sum = rw (← c .symbols) (pair-weight list count K d at s g l p n m size c)
 
-    pub front-room : Small l K × (d ≤ 16) × (size .instructions ≤ 6144) × (place + weight front ≤ length start)
+    pub front-room :
+        Small l K × (d ≤ Limits.most-open) × (size .instructions ≤ Limits.most-instructions) × (place + weight front ≤ length start)
     front-room =
         let a : _ = pair-asks list count K d at s g l p n m size c in
         (a .0, a .1, a .2 .instructions, omega (arith, sum))
@@ -104,11 +107,11 @@ module _ (list : List ℕ) (count K d at : ℕ) (s : Site list count K d at) (g 
 
     pub back-room : (out out′ : List ℕ) (from : ℕ) (b : Spot) → Put (text (table-of front)) place start out from
         → Writes K n (at + 1) (block-at list (at + 1)) from out out′ b
-        → (size .instructions ≤ 6144) × (b .next < 512) × (b .place + weight (after K d l size) ≤ length out′)
+        → (size .instructions ≤ Limits.most-instructions) × (b .next < Limits.most-lines)
+        × (b .place + weight (after K d l size) ≤ length out′)
     back-room out out′ from b f w =
         let a : _ = pair-asks list count K d at s g l p n m size c in
-        let lengths : length out′ ≡ length start = put-length (w .put) ∙ put-length f in
-        (
+        let lengths : length out′ ≡ length start = put-length (w .put) ∙ put-length f in (
           a .2 .instructions,
           omega (arith, a .2 .next, c .ended, w .ended),
           omega (arith, sum, f .ended, w .put .ended, text-length (table-of front), text-length (table-of body)),
@@ -119,7 +122,8 @@ module _ (list : List ℕ) (count K d at : ℕ) (s : Site list count K d at) (g 
         → Wrote (after K d l size) (b .next + 1) (b .place) out′ out″ e → Writes K d at (first (block-at list at)) place start out″ e
     pair-writes out out′ out″ from b e f w h =
         let back : List Instruction = after K d l size in
-        let text-is : text (table-of (code K d (first (block-at list at)))) ≡ text (table-of front) ++ (text (table-of body) ++ text (table-of back)) =
+        let whole : List Instruction = code K d (first (block-at list at)) in
+        let text-is : text (table-of whole) ≡ text (table-of front) ++ (text (table-of body) ++ text (table-of back)) =
         ap (λ u. text (table-of u)) (pair-code list count K d at s g l p n m size c)
         ∙ (words-append front (body ++ back) ∙ ap (λ u. text (table-of front) ++ u) (words-append body back)) in
         record {

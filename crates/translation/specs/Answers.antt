@@ -21,7 +21,11 @@ abbrev pub translated : Answer (List Command) → Translated
 translated (done p) = T.Done (size-of p)
 translated (refused r) = T.Refused r
 
--- Both the answer and the output, of a program handed in as A
+-- The output afterwards: the word and what was there, or as it was
+abbrev pub output : List ℕ → Answer (List Command) → List ℕ
+output lent A = lent-after lent (mapped word-text (translate-into lent A))
+
+-- Both, of a program handed in as A
 pub record Answered (A : Answer (List Command)) (entry exit : List ℕ) (r : Translated) : Type 0 where
   pub answers : r ≡ translated (translate-into entry A)
-  pub output : exit ≡ lent-after entry (mapped word-text (translate-into entry A))
+  pub writes : exit ≡ output entry A

@@ -2,11 +2,13 @@
 use mathlib.Core.Path.{_≡_}
 use mathlib.Core.Bool.{cond}
 use mathlib.Core.List.{List, [], _∷_}
-use Prim.Native.Nat.{ℕ, zero, suc, _+_, _*_, _≤_, _<_}
+use Prim.Native.Nat.{ℕ, zero, suc, _+_, _*_, _≤_}
 use lib.ListN.{length, getD, drop}
 use lib.Dec.{eqb}
+use Rattle.theory.specs.Limits
 use Rattle.theory.specs.ProgramText.{Plain, clear, increment, copy, Kind, loop, while, Command, numbers}
 use Rattle.theory.specs.Word.{Instruction, Entry, table-of}
+use Rattle.theory.specs.Translation.{before-body, after-body}
 use Rattle.translation.specs.declared.pieces.Piece.{Piece}
 use Rattle.translation.specs.declared.lines.Line.{Line}
 
@@ -27,9 +29,16 @@ kind-of n = cond (eqb n 4) loop while
 
 -- So small that no register's number wraps
 pub record Small (l : Line) (K : ℕ) : Type 0 where
-  pub index : l .index < 32
-  pub source : l .source < 32
-  pub variables : K ≤ 32
+  pub index : l .index ≤ Limits.most-index
+  pub source : l .source ≤ Limits.most-index
+  pub variables : K ≤ suc Limits.most-index
+
+-- What stands before and after a body of m instructions, of a pair that a line opens inside d loops of a program of K variables
+abbrev pub front : ℕ → ℕ → Line → ℕ → List Instruction
+front K d l m = before-body K d (kind-of (l .kind)) (l .index) m
+
+abbrev pub back : ℕ → ℕ → List Instruction
+back n m = after-body (kind-of n) m ∷ []
 
 -- The first n kinds and operands
 abbrev pub entries : ℕ → List ℕ → List ℕ → List Entry

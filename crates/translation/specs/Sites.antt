@@ -1,19 +1,20 @@
--- Where a block stands in an accepted list, what its code counts, and a text written into an output.
+-- Where a block stands in an accepted list, what its code counts, and that it was written.
 use mathlib.Core.Path.{_≡_}
 use mathlib.Core.Bool.{Bool, true, false}
-use mathlib.Core.List.{List, [], _∷_, _++_}
+use mathlib.Core.List.{List, _++_}
 use Prim.Native.Nat.{ℕ, _+_, _≤_, _<_}
 use lib.ListN.{length, drop}
-use lib.Seq.{sets}
 use Rattle.theory.specs.Limits
 use Rattle.theory.specs.Basics.{present}
 use Rattle.theory.specs.Text.{Bytes}
 use Rattle.theory.specs.ProgramText.{Command, variables, listed, Block, end, line, pair, lines, blocks}
 use Rattle.theory.specs.Word.{Instruction, Entry, table-of, spell-entries, bytes-of}
-use Rattle.theory.specs.Translation.{before-body, after-body, code}
-use Rattle.theory.specs.TurnedDown.{done, read-list, total}
+use Rattle.theory.specs.Translation.{code}
+use Rattle.theory.specs.TurnedDown.{done, read-list}
 use Rattle.theory.proofs.Nesting.{nest}
-use Rattle.translation.specs.Pieces.{kind-of}
+use Rattle.theory.proofs.Sizes.{weight}
+use Rattle.program.specs.Puts.{Put}
+use Rattle.translation.specs.Pieces.{front, back}
 use Rattle.translation.specs.declared.lines.Line.{Line}
 use Rattle.translation.specs.declared.sizes.Extent.{Extent}
 use Rattle.translation.specs.declared.writing.Spot.{Spot}
@@ -53,17 +54,12 @@ pub record Known (list : List ℕ) (count K : ℕ) : Type 0 where
 
 -- A block of such a list begins at line `at`, inside d loops, in a program of K variables. After it the list ends or a pair closes
 pub record Site (list : List ℕ) (count K d at : ℕ) : Type 0 where
-  pub accepts : Accepts list count
-  pub names : K ≡ variables (program-of list)
+  pub known : Known list count K
   pub within : at ≤ count
   pub later : List Command
   pub split : drop at (program-of list) ≡ lines (block-at list at) ++ later
   pub stops : blocks later .first ≡ end
   pub room : d + nest (block-at list at) ≤ Limits.most-open
-
--- The symbols of some instructions
-abbrev pub weight : List Instruction → ℕ
-weight w = total (table-of w)
 
 -- What some instructions count, up to a line
 pub record Counted (w : List Instruction) (next : ℕ) (e : Extent) : Type 0 where
@@ -80,18 +76,18 @@ abbrev pub join : Extent → Extent → Extent
 join a b = record { instructions = a .instructions + b .instructions; symbols = a .symbols + b .symbols; next = b .next }
 
 module _ (K d : ℕ) (l : Line) (body : Extent) where
-  -- What stands before and after the body of a pair that a line opens
+  -- What stands before and after a body of this extent
   abbrev pub before : List Instruction
-  before = before-body K d (kind-of (l .kind)) (l .index) (body .instructions)
+  before = front K d l (body .instructions)
 
   abbrev pub after : List Instruction
-  after = after-body (kind-of (l .kind)) (body .instructions) ∷ []
+  after = back (l .kind) (body .instructions)
 
   -- The sums do not wrap
   pub record Roomy : Type 0 where
-    pub instructions : body .instructions ≤ 6144
-    pub symbols : weight before + body .symbols + weight after ≤ 325120
-    pub next : body .next < 512
+    pub instructions : body .instructions ≤ Limits.most-instructions
+    pub symbols : weight before + body .symbols + weight after ≤ Limits.most-symbols
+    pub next : body .next < Limits.most-lines
 
   -- An extent counts the body with both
   pub record Around (e : Extent) : Type 0 where
@@ -102,11 +98,6 @@ module _ (K d : ℕ) (l : Line) (body : Extent) where
 -- The text of some entries: each its operand times 1, and then its kind times #
 abbrev pub text : List Entry → Bytes
 text t = bytes-of (spell-entries t)
-
--- A text was written from a place on, and ends before another
-pub record Put (text : List ℕ) (place : ℕ) (before after : List ℕ) (end : ℕ) : Type 0 where
-  pub ended : end ≡ place + length text
-  pub wrote : after ≡ sets before place text
 
 -- Some instructions were written, up to a line
 pub record Wrote (w : List Instruction) (next place : ℕ) (before after : List ℕ) (s : Spot) : Type 0 where

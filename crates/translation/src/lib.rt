@@ -1,5 +1,5 @@
-// Translation of a program into its 1# word (document 01, "Translation"). The sizes come first, by a walk over the program; then each symbol of the word is
-// written once, straight into the caller's output.
+// Translation of a program into its 1# word (document 01, "Translation"). The sizes come first, by a walk over the program; then each
+// symbol of the word is written once, straight into the caller's output.
 mod lines;
 mod pieces;
 mod sizes;
@@ -11,8 +11,8 @@ ghost use mathlib.Core.Path.{_≡_};
 ghost use Prim.Native.Nat.{_≤_};
 ghost use lib.ListN.{length};
 ghost use Rattle.theory.specs.Translation.{word-text};
-ghost use Rattle.theory.specs.TurnedDown.{done, mapped, read-list, read-text, lent-after};
-ghost use Rattle.translation.specs.Answers.{size-of, translate-into, translated, Answered};
+ghost use Rattle.theory.specs.TurnedDown.{done, read-list, read-text, lent-after};
+ghost use Rattle.translation.specs.Answers.{size-of, translate-into, translated, output, Answered};
 ghost use Rattle.translation.specs.Sites.{program-of, Known};
 
 // The size of a word: its symbols and its instructions.
@@ -33,7 +33,10 @@ fn word_size(list: &[u8], lines: usize, variables: usize) -> Size
     ensures { λ r. ⌜ r ≡ size-of (program-of (now (list .entry))) ⌝ }
 {
     let block = sizes::block_size(list, lines, variables, 0, 0);
-    Size { symbols: 4 + block.symbols, instructions: 1 + block.instructions }
+    Size {
+        symbols: 4 + block.symbols,
+        instructions: 1 + block.instructions,
+    }
 }
 
 // The word of an accepted list, at the start of an output that has room for it.
@@ -52,7 +55,10 @@ fn translate_accepted(list: &[u8], lines: usize, variables: usize, out: &mut [u8
 {
     let size = word_size(list, lines, variables);
     if out.len() < size.symbols {
-        return Translated::Refused(Refusal { number: 19, place: 0 });
+        return Translated::Refused(Refusal {
+            number: 19,
+            place: 0,
+        });
     }
     put_word(list, lines, variables, &mut *out);
     Translated::Done(size)
@@ -61,7 +67,7 @@ fn translate_accepted(list: &[u8], lines: usize, variables: usize, out: &mut [u8
 // A list of three numbers a command: rules 3 to 8, then 19.
 pub fn translate_list(list: &[u8], out: &mut [u8]) -> Translated
     ensures { λ r. ⌜ r ≡ translated (translate-into (now (out .entry)) (read-list (now (list .entry)))) ⌝ }
-    ensures { λ _. ⌜ now (out .exit) ≡ lent-after (now (out .entry)) (mapped word-text (translate-into (now (out .entry)) (read-list (now (list .entry))))) ⌝ }
+    ensures { λ _. ⌜ now (out .exit) ≡ output (now (out .entry)) (read-list (now (list .entry))) ⌝ }
 {
     match program::check_list(list) {
         Checked::Refused(r) => Translated::Refused(r),
@@ -72,7 +78,7 @@ pub fn translate_list(list: &[u8], out: &mut [u8]) -> Translated
 // A text: rules 1 to 8, then 19.
 pub fn translate_text(text: &[u8], out: &mut [u8]) -> Translated
     ensures { λ r. ⌜ r ≡ translated (translate-into (now (out .entry)) (read-text (now (text .entry)))) ⌝ }
-    ensures { λ _. ⌜ now (out .exit) ≡ lent-after (now (out .entry)) (mapped word-text (translate-into (now (out .entry)) (read-text (now (text .entry))))) ⌝ }
+    ensures { λ _. ⌜ now (out .exit) ≡ output (now (out .entry)) (read-text (now (text .entry))) ⌝ }
 {
     let mut list = [0u8; program::Program::NUMBERS];
     match program::read(text, &mut list) {

@@ -1,14 +1,15 @@
 // The instructions of a line and of the two ends of a pair, as small tables by value.
 ghost use mathlib.Core.Path.{_≡_};
 ghost use mathlib.Core.List.{[], _∷_};
-ghost use Prim.Native.Nat.{_+_, _≤_, _<_};
+ghost use Prim.Native.Nat.{_+_, _≤_};
+ghost use Rattle.theory.specs.Limits as Limits;
 ghost use Rattle.theory.specs.ProgramText.{loop};
 ghost use Rattle.theory.specs.Source as S;
 ghost use Rattle.theory.specs.Word.{append, forward, cases, one};
 ghost use Rattle.theory.specs.Word as W;
 ghost use Rattle.theory.specs.Translation as T;
 ghost use Rattle.theory.specs.TurnedDown.{total};
-ghost use Rattle.translation.specs.Pieces.{plain-of, kind-of, Small, table, Holds};
+ghost use Rattle.translation.specs.Pieces.{plain-of, kind-of, Small, front, back, table, Holds};
 use crate::lines::Line;
 
 // Up to twelve instructions, the first `count` of the two arrays.
@@ -63,11 +64,11 @@ fn copying(a: usize, b: usize, t: usize) -> Piece
 }
 
 // "LOOP with a body of m instructions: C a, F4, +c, +t, B4, C t, F3, +a, B3, C c, F(m+2)", before the body.
-fn before_loop(index: usize, variables: usize, depth: usize, m: usize) -> Piece
-    requires { ⌜ (index < 32) × (variables ≤ 32) × (depth ≤ 16) × (m ≤ 6144) ⌝ }
-    ensures { λ r. ⌜ Holds r (T.before-body variables depth loop index m) ⌝ }
+fn before_loop(line: Line, variables: usize, depth: usize, m: usize) -> Piece
+    requires { ⌜ Small line variables × (depth ≤ Limits.most-open) × (m ≤ Limits.most-instructions) ⌝ }
+    ensures { λ r. ⌜ Holds r (T.before-body variables depth loop (line .index) m) ⌝ }
 {
-    let a = index + 1;
+    let a = line.index + 1;
     let t = variables + 1;
     let c = variables + 2 + depth;
     Piece {
@@ -79,7 +80,7 @@ fn before_loop(index: usize, variables: usize, depth: usize, m: usize) -> Piece
 
 // "WHILE: C a, F(m+3), +a", before the body.
 fn before_while(index: usize, m: usize) -> Piece
-    requires { ⌜ (index < 32) × (m ≤ 6144) ⌝ }
+    requires { ⌜ (index ≤ Limits.most-index) × (m ≤ Limits.most-instructions) ⌝ }
     ensures { λ r. ⌜ Holds r (cases (index + 1) ∷ forward (m + 3) ∷ append one (index + 1) ∷ []) ⌝ }
 {
     let a = index + 1;
@@ -122,20 +123,20 @@ pub fn plain_line(line: Line, variables: usize) -> Piece
 
 // What stands before the body of a pair that the line opens, inside `depth` loops, with a body of m instructions.
 pub fn before_body(line: Line, variables: usize, depth: usize, m: usize) -> Piece
-    requires { ⌜ Small line variables × (depth ≤ 16) × (m ≤ 6144) ⌝ }
-    ensures { λ r. ⌜ Holds r (T.before-body variables depth (kind-of (line .kind)) (line .index) m) ⌝ }
+    requires { ⌜ Small line variables × (depth ≤ Limits.most-open) × (m ≤ Limits.most-instructions) ⌝ }
+    ensures { λ r. ⌜ Holds r (front variables depth line m) ⌝ }
 {
     let kind = line.kind;
     match kind {
-        4 => before_loop(line.index, variables, depth, m),
+        4 => before_loop(line, variables, depth, m),
         _ => before_while(line.index, m),
     }
 }
 
 // What stands after it.
 pub fn after_body(kind: u8, m: usize) -> Piece
-    requires { ⌜ m ≤ 6144 ⌝ }
-    ensures { λ r. ⌜ Holds r (T.after-body (kind-of kind) m ∷ []) ⌝ }
+    requires { ⌜ m ≤ Limits.most-instructions ⌝ }
+    ensures { λ r. ⌜ Holds r (back kind m) ⌝ }
 {
     match kind {
         4 => backward(m + 2),
@@ -145,7 +146,7 @@ pub fn after_body(kind: u8, m: usize) -> Piece
 
 // The loops around the body of such a pair.
 pub fn deeper(kind: u8, depth: usize) -> usize
-    requires { ⌜ depth ≤ 16 ⌝ }
+    requires { ⌜ depth ≤ Limits.most-open ⌝ }
     ensures { λ r. ⌜ r ≡ S.deeper (kind-of kind) depth ⌝ }
 {
     match kind {
@@ -156,7 +157,7 @@ pub fn deeper(kind: u8, depth: usize) -> usize
 
 // The symbols of a piece.
 pub fn symbols(piece: Piece) -> usize
-    requires { ⌜ (piece .count ≤ 12) × (total (table piece) ≤ 600000) ⌝ }
+    requires { ⌜ (piece .count ≤ 12) × (total (table piece) ≤ Limits.most-symbols) ⌝ }
     ensures { λ r. ⌜ r ≡ total (table piece) ⌝ }
 {
     let mut sum: usize = 0;
@@ -168,6 +169,7 @@ pub fn symbols(piece: Piece) -> usize
     sum
 }
 
+// A byte as a number that can be counted with.
 pub fn wide(x: u8) -> usize
     ensures { λ r. ⌜ r ≡ x ⌝ }
 {

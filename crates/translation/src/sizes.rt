@@ -1,12 +1,13 @@
-// Sizes of a block and of a line or pair, by two functions that call each other. A block goes through its lines and pairs in a loop, so that calls are
-// nested no deeper than pairs.
+// Sizes of a block and of a line or pair, by two functions that call each other. A block goes through its lines and pairs in a loop, so
+// that calls are nested no deeper than pairs.
 ghost use mathlib.Core.Path.{_≡_};
 ghost use mathlib.Core.Bool.{true};
-ghost use Prim.Native.Nat.{ℕ, _+_, _*_, _≤_, _<_};
-ghost use lib.ListN.{length};
+ghost use Prim.Native.Nat.{_+_, _≤_, _<_};
+ghost use Rattle.theory.specs.Limits as Limits;
 ghost use Rattle.theory.specs.Translation.{plain-code};
-ghost use Rattle.translation.specs.Pieces.{plain-of, kind-of, Small};
-ghost use Rattle.translation.specs.Sites.{Site, block-at, goes-on, first, weight, Counted, Counts, Roomy, Around, join};
+ghost use Rattle.theory.proofs.Sizes.{weight};
+ghost use Rattle.translation.specs.Pieces.{plain-of, Small};
+ghost use Rattle.translation.specs.Sites.{Site, block-at, goes-on, first, Counted, Counts, Roomy, Around, join};
 use crate::lines;
 use crate::pieces;
 
@@ -19,7 +20,8 @@ pub struct Extent {
 
 // A plain line, at line `at`.
 fn line_size(line: lines::Line, variables: usize, at: usize) -> Extent
-    requires { ⌜ Small line variables × (weight (plain-code variables (plain-of line)) ≤ 325120) × (at < 512) ⌝ }
+    requires { ⌜ Small line variables × (weight (plain-code variables (plain-of line)) ≤ Limits.most-symbols)
+        × (at < Limits.most-lines) ⌝ }
     ensures { λ r. ⌜ Counted (plain-code variables (plain-of line)) (at + 1) r ⌝ }
 {
     let piece = pieces::plain_line(line, variables);
@@ -32,7 +34,7 @@ fn line_size(line: lines::Line, variables: usize, at: usize) -> Extent
 
 // A body, with what stands before and after it, of a pair that the line opens inside `depth` loops.
 fn around(line: lines::Line, variables: usize, depth: usize, body: Extent) -> Extent
-    requires { ⌜ Small line variables × (depth ≤ 16) × Roomy variables depth line body ⌝ }
+    requires { ⌜ Small line variables × (depth ≤ Limits.most-open) × Roomy variables depth line body ⌝ }
     ensures { λ r. ⌜ Around variables depth line body r ⌝ }
 {
     let m = body.instructions;
@@ -45,8 +47,9 @@ fn around(line: lines::Line, variables: usize, depth: usize, body: Extent) -> Ex
     }
 }
 
+// One extent, and another that follows it.
 fn joined(a: Extent, b: Extent) -> Extent
-    requires { ⌜ (a .instructions + b .instructions ≤ 6144) × (a .symbols + b .symbols ≤ 325120) ⌝ }
+    requires { ⌜ (a .instructions + b .instructions ≤ Limits.most-instructions) × (a .symbols + b .symbols ≤ Limits.most-symbols) ⌝ }
     ensures { λ r. ⌜ r ≡ join a b ⌝ }
 {
     Extent {

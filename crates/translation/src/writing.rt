@@ -4,11 +4,14 @@ ghost use mathlib.Core.Bool.{true};
 ghost use mathlib.Core.List.{[], _∷_};
 ghost use Prim.Native.Nat.{_+_, _≤_, _<_};
 ghost use lib.ListN.{length, replicate};
+ghost use Rattle.theory.specs.Limits as Limits;
 ghost use Rattle.theory.specs.Word.{table-of};
-ghost use Rattle.theory.specs.Translation.{plain-code, before-body, after-body, code};
+ghost use Rattle.theory.specs.Translation.{plain-code, code};
 ghost use Rattle.theory.specs.TurnedDown.{total};
-ghost use Rattle.translation.specs.Pieces.{plain-of, kind-of, Small, table};
-ghost use Rattle.translation.specs.Sites.{Site, block-at, goes-on, first, weight, text, Put, Wrote, Writes};
+ghost use Rattle.theory.proofs.Sizes.{weight};
+ghost use Rattle.program.specs.Puts.{Put};
+ghost use Rattle.translation.specs.Pieces.{plain-of, Small, front, back, table};
+ghost use Rattle.translation.specs.Sites.{Site, block-at, goes-on, first, text, Wrote, Writes};
 use crate::lines;
 use crate::pieces;
 use crate::sizes;
@@ -19,6 +22,7 @@ pub struct Spot {
     pub place: usize,
 }
 
+// A symbol, so many times.
 fn put_run(out: &mut [u8], place: usize, count: usize, symbol: u8) -> usize
     requires { ⌜ place + count ≤ length (now out) ⌝ }
     ensures { λ r. ⌜ Put (replicate count symbol) place (now (out .entry)) (now (out .exit)) r ⌝ }
@@ -40,6 +44,7 @@ pub fn put_instruction(out: &mut [u8], place: usize, operand: usize, kind: usize
     put_run(&mut *out, middle, kind, 35)
 }
 
+// The instructions of a piece, one after the other.
 fn put_piece(piece: pieces::Piece, out: &mut [u8], place: usize) -> usize
     requires { ⌜ (piece .count ≤ 12) × (place + total (table piece) ≤ length (now out)) ⌝ }
     ensures { λ r. ⌜ Put (text (table piece)) place (now (out .entry)) (now (out .exit)) r ⌝ }
@@ -47,7 +52,12 @@ fn put_piece(piece: pieces::Piece, out: &mut [u8], place: usize) -> usize
     let mut at = place;
     let mut i: usize = 0;
     while i < piece.count {
-        at = put_instruction(&mut *out, at, piece.operands[i], pieces::wide(piece.kinds[i]));
+        at = put_instruction(
+            &mut *out,
+            at,
+            piece.operands[i],
+            pieces::wide(piece.kinds[i]),
+        );
         i += 1;
     }
     at
@@ -55,33 +65,62 @@ fn put_piece(piece: pieces::Piece, out: &mut [u8], place: usize) -> usize
 
 // A plain line, at line `at`.
 fn put_line(line: lines::Line, variables: usize, at: usize, out: &mut [u8], place: usize) -> Spot
-    requires { ⌜ Small line variables × (at < 512) × (place + weight (plain-code variables (plain-of line)) ≤ length (now out)) ⌝ }
+    requires { ⌜ Small line variables × (at < Limits.most-lines)
+        × (place + weight (plain-code variables (plain-of line)) ≤ length (now out)) ⌝ }
     ensures { λ r. ⌜ Wrote (plain-code variables (plain-of line)) (at + 1) place (now (out .entry)) (now (out .exit)) r ⌝ }
 {
     let end = put_piece(pieces::plain_line(line, variables), &mut *out, place);
-    Spot { next: at + 1, place: end }
+    Spot {
+        next: at + 1,
+        place: end,
+    }
 }
 
 // What stands before a body of m instructions.
-fn put_before(line: lines::Line, variables: usize, depth: usize, m: usize, out: &mut [u8], place: usize) -> usize
-    requires { ⌜ Small line variables × (depth ≤ 16) × (m ≤ 6144) × (place + weight (before-body variables depth (kind-of (line .kind)) (line .index) m) ≤ length (now out)) ⌝ }
-    ensures { λ r. ⌜ Put (text (table-of (before-body variables depth (kind-of (line .kind)) (line .index) m))) place (now (out .entry)) (now (out .exit)) r ⌝ }
+fn put_before(
+    line: lines::Line,
+    variables: usize,
+    depth: usize,
+    m: usize,
+    out: &mut [u8],
+    place: usize,
+) -> usize
+    requires { ⌜ Small line variables × (depth ≤ Limits.most-open) × (m ≤ Limits.most-instructions)
+        × (place + weight (front variables depth line m) ≤ length (now out)) ⌝ }
+    ensures { λ r. ⌜ Put (text (table-of (front variables depth line m))) place (now (out .entry)) (now (out .exit)) r ⌝ }
 {
-    put_piece(pieces::before_body(line, variables, depth, m), &mut *out, place)
+    put_piece(
+        pieces::before_body(line, variables, depth, m),
+        &mut *out,
+        place,
+    )
 }
 
 // What stands after it, and its closing line.
 fn put_after(kind: u8, m: usize, out: &mut [u8], body: Spot) -> Spot
-    requires { ⌜ (m ≤ 6144) × (body .next < 512) × (body .place + weight (after-body (kind-of kind) m ∷ []) ≤ length (now out)) ⌝ }
-    ensures { λ r. ⌜ Wrote (after-body (kind-of kind) m ∷ []) (body .next + 1) (body .place) (now (out .entry)) (now (out .exit)) r ⌝ }
+    requires { ⌜ (m ≤ Limits.most-instructions) × (body .next < Limits.most-lines)
+        × (body .place + weight (back kind m) ≤ length (now out)) ⌝ }
+    ensures { λ r. ⌜ Wrote (back kind m) (body .next + 1) (body .place) (now (out .entry)) (now (out .exit)) r ⌝ }
 {
     let end = put_piece(pieces::after_body(kind, m), &mut *out, body.place);
-    Spot { next: body.next + 1, place: end }
+    Spot {
+        next: body.next + 1,
+        place: end,
+    }
 }
 
 // The block that begins at line `at`, inside `depth` loops.
-pub fn put_block(list: &[u8], lines: usize, variables: usize, depth: usize, at: usize, out: &mut [u8], place: usize) -> Spot
-    requires { ⌜ Site (now list) lines variables depth at × (place + weight (code variables depth (block-at (now list) at)) ≤ length (now out)) ⌝ }
+pub fn put_block(
+    list: &[u8],
+    lines: usize,
+    variables: usize,
+    depth: usize,
+    at: usize,
+    out: &mut [u8],
+    place: usize,
+) -> Spot
+    requires { ⌜ Site (now list) lines variables depth at
+        × (place + weight (code variables depth (block-at (now list) at)) ≤ length (now out)) ⌝ }
     ensures { λ r. ⌜ Writes variables depth at (block-at (now (list .entry)) at) place (now (out .entry)) (now (out .exit)) r ⌝ }
 {
     let mut next = at;
@@ -95,7 +134,15 @@ pub fn put_block(list: &[u8], lines: usize, variables: usize, depth: usize, at: 
 }
 
 // Its first line or pair.
-fn put_pair(list: &[u8], lines: usize, variables: usize, depth: usize, at: usize, out: &mut [u8], place: usize) -> Spot
+fn put_pair(
+    list: &[u8],
+    lines: usize,
+    variables: usize,
+    depth: usize,
+    at: usize,
+    out: &mut [u8],
+    place: usize,
+) -> Spot
     requires { ⌜ Site (now list) lines variables depth at × (goes-on (block-at (now list) at) ≡ true)
         × (place + weight (code variables depth (first (block-at (now list) at))) ≤ length (now out)) ⌝ }
     ensures { λ r. ⌜ Writes variables depth at (first (block-at (now (list .entry)) at)) place (now (out .entry)) (now (out .exit)) r ⌝ }
@@ -105,10 +152,11 @@ fn put_pair(list: &[u8], lines: usize, variables: usize, depth: usize, at: usize
         put_line(line, variables, at, &mut *out, place)
     } else {
         let inner = pieces::deeper(line.kind, depth);
-        let size = sizes::block_size(list, lines, variables, inner, at + 1);
+        let first = at + 1;
+        let size = sizes::block_size(list, lines, variables, inner, first);
         let m = size.instructions;
         let start = put_before(line, variables, depth, m, &mut *out, place);
-        let body = put_block(list, lines, variables, inner, at + 1, &mut *out, start);
+        let body = put_block(list, lines, variables, inner, first, &mut *out, start);
         put_after(line.kind, m, &mut *out, body)
     }
 }

@@ -70,8 +70,12 @@ enum-known-r : tie.Need-enum-known-r Inv-loop μ-loop
 enum-known-r c = search needs
 
 returns-2 : tie.Need-returns-2 Inv-loop μ-loop
-returns-2 c = let m = c .before .before .before .before .before .before .before .before .loop in
-    faulty (c .before .before .before .before .before .before .before .before .before .before .before .before .args .list .now) (m .lines) (m .variables) (m .nest) (m .inv .1) (c .before .before .before .before .before .before .before .loop-test .taken) _ (m .inv .0)
+returns-2 c =
+    let c7 = c .before .before .before .before .before .before .before in
+    let c8 = c7 .before in
+    let c12 = c8 .before .before .before .before in
+    let m = c8 .loop in
+    faulty (c12 .args .list .now) (m .lines) (m .variables) (m .nest) (m .inv .1) (c7 .loop-test .taken) _ (m .inv .0)
     (judged-fault _ (c .before .before .before .judged .ensures) (c .before .r .given .1))
 
 enum-told : tie.Need-enum-told Inv-loop μ-loop
@@ -81,7 +85,10 @@ add-next : tie.Need-add-next Inv-loop μ-loop
 add-next c = omega arith
 
 next-requires : tie.Need-next-requires Inv-loop μ-loop
-next-requires c κs = (c .before .before .before .before .before .before .before .loop .inv .1 .room, judged-passes _ (c .before .before .judged .ensures) (c .enum-told .given .1))
+next-requires c κs = (
+  c .before .before .before .before .before .before .before .loop .inv .1 .room,
+  judged-passes _ (c .before .before .judged .ensures) (c .enum-told .given .1),
+)
 
 named-requires : tie.Need-named-requires Inv-loop μ-loop
 named-requires c κs = tt
@@ -93,9 +100,14 @@ loop-less : tie.Need-loop-less Inv-loop μ-loop
 loop-less c = omega arith
 
 loop-again : tie.Need-loop-again Inv-loop μ-loop
-loop-again c = let m = c .before .before .before .before .before .before .before .before .before .loop in
-    let passed = judged-passes _ (c .before .before .before .before .judged .ensures) (c .before .before .enum-told .given .1) in
-    let so-far = onward (c .before .before .before .before .before .before .before .before .before .before .before .before .before .args .list .now) (m .lines) (m .variables) (m .nest) (m .inv .1) (c .before .before .before .before .before .before .before .before .loop-test .taken) in
+loop-again c =
+    let c4 = c .before .before .before .before in
+    let c8 = c4 .before .before .before .before in
+    let c9 = c8 .before in
+    let c13 = c9 .before .before .before .before in
+    let m = c9 .loop in
+    let passed = judged-passes _ (c4 .judged .ensures) (c .before .before .enum-told .given .1) in
+    let so-far = onward (c13 .args .list .now) (m .lines) (m .variables) (m .nest) (m .inv .1) (c8 .loop-test .taken) in
     (m .inv .0, so-far _ _ passed (c .before .next .ensures) (c .named .ensures))
 
 mul-if2 : tie.Need-mul-if2 Inv-loop μ-loop
@@ -108,16 +120,20 @@ refused-requires-2 : tie.Need-refused-requires-2 Inv-loop μ-loop
 refused-requires-2 c κs = tt
 
 returns-3 : tie.Need-returns-3 Inv-loop μ-loop
-returns-3 c = let m = c .before .before .before .loop in
+returns-3 c =
+    let c7 = c .before .before .before .before .before .before .before in
+    let m = c .before .before .before .loop in
     rw (c .refused2 .ensures)
-    (cut (c .before .before .before .before .before .before .before .args .list .now) (m .lines) (m .variables) (m .nest) (m .inv .1) (omega arith) (omega arith) (m .inv .0))
+    (cut (c7 .args .list .now) (m .lines) (m .variables) (m .nest) (m .inv .1) (omega arith) (omega arith) (m .inv .0))
 
 ended-requires : tie.Need-ended-requires Inv-loop μ-loop
 ended-requires c κs = c .before .before .loop .inv .1 .room
 
 returns-4 : tie.Need-returns-4 Inv-loop μ-loop
-returns-4 c = let m = c .before .before .before .loop in
-    c .ended .ensures ∙ whole (c .before .before .before .before .before .before .before .args .list .now) (m .lines) (m .variables) (m .nest) (m .inv .1) (omega arith) (m .inv .0)
+returns-4 c =
+    let c7 = c .before .before .before .before .before .before .before in
+    let m = c .before .before .before .loop in
+    c .ended .ensures ∙ whole (c7 .args .list .now) (m .lines) (m .variables) (m .nest) (m .inv .1) (omega arith) (m .inv .0)
 
 pub check-list-spec : {M : Type 1} → statement M
 check-list-spec =

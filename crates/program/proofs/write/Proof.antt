@@ -19,12 +19,22 @@ text-size-requires c κs = let a = c .before .before .before .before .before .ar
     writes-faultless (a .list .now) (a .text .now) (c .before .before .check-list .ensures) (c .enum-told .given .1)
 
 returns : tie.Need-returns
-returns c = let a = c .before .before .before .before .before .before .before .args in
-    writes-no-room (a .list .now) (a .text .now) (c .before .before .before .before .check-list .ensures) (c .before .before .enum-told .given .1) (c .before .text-size .result) (c .before .text-size .ensures) (c .if1 .taken)
+returns c =
+    let c4 = c .before .before .before .before in
+    let c7 = c4 .before .before .before in
+    let a = c7 .args in
+    writes-no-room (a .list .now) (a .text .now) (c4 .check-list .ensures) (c .before .before .enum-told .given .1)
+    (c .before .text-size .result) (c .before .text-size .ensures) (c .if1 .taken)
 
 put-text-requires : tie.Need-put-text-requires
-put-text-requires c κs = let a = c .before .before .before .before .before .before .before .before .args in
-    (writes-faultless (a .list .now) (a .text .now) (c .before .before .before .before .before .check-list .ensures) (c .before .before .before .enum-told .given .1), omega (arith, c .before .before .text-size .ensures, c .before .if1 .left))
+put-text-requires c κs =
+    let c5 = c .before .before .before .before .before in
+    let c8 = c5 .before .before .before in
+    let a = c8 .args in (
+      writes-faultless (a .list .now) (a .text .now) (c5 .check-list .ensures) (c .before .before .before .enum-told .given .1),
+      omega
+          (arith, c .before .before .text-size .ensures, c .before .if1 .left),
+    )
 
 returns-2 : tie.Need-returns-2
 returns-2 c = let a = c .before .before .before .before .before .before .args in
@@ -34,8 +44,15 @@ same-length : tie.Need-same-length
 same-length c = search needs
 
 returns-3 : tie.Need-returns-3
-returns-3 c = let a = c .before .before .before .before .before .before .before .before .before .before .before .args in
-    writes-done (a .list .now) (a .text .now) (c .before .before .before .before .before .before .before .before .check-list .ensures) (c .before .before .before .before .before .before .enum-told .given .1) (c .before .before .before .before .before .text-size .result) (c .before .before .before .before .before .text-size .ensures) (c .before .before .before .before .if1 .left) (c .before .before .put-text .last .1 .0) (c .before .before .put-text .ensures)
+returns-3 c =
+    let c4 = c .before .before .before .before in
+    let c5 = c4 .before in
+    let c6 = c5 .before in
+    let c8 = c6 .before .before in
+    let c11 = c8 .before .before .before in
+    let a = c11 .args in
+    writes-done (a .list .now) (a .text .now) (c8 .check-list .ensures) (c6 .enum-told .given .1) (c5 .text-size .result)
+    (c5 .text-size .ensures) (c4 .if1 .left) (c .before .before .put-text .last .1 .0) (c .before .before .put-text .ensures)
 
 pub write-spec : {M : Type 1} → statement M
 write-spec =

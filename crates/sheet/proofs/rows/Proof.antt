@@ -67,7 +67,7 @@ loop-again c =
     (along-next (a .sheet .now) (a .capacity) (a .count) (a .from) (l .at) (l .n) (l .inv) (u .before .loop-test .taken) fine)
 
 sub-t12 : tie.Need-sub-t12 Inv-loop μ-loop
-sub-t12 c = c .before .loop .inv .second
+sub-t12 c = omega (arith, c .before .loop .inv .second)
 
 returns-2 : tie.Need-returns-2 Inv-loop μ-loop
 returns-2 c =

@@ -35,7 +35,10 @@ loop-less : tie.Need-loop-less Inv-loop μ-loop
 loop-less c = omega arith
 
 loop-again : tie.Need-loop-again Inv-loop μ-loop
-loop-again c = rw (c .shifted .ensures) (digits-more (c .before .before .before .before .before .loop .inv) _ (c .before .before .before .before .loop-test .taken) refl (omega arith) (omega arith))
+loop-again c =
+    let c4 = c .before .before .before .before in
+    let c5 = c4 .before in
+    rw (c .shifted .ensures) (digits-more (c5 .loop .inv) _ (c4 .loop-test .taken) refl (omega arith) (omega arith))
 
 returns-3 : tie.Need-returns-3 Inv-loop μ-loop
 returns-3 c = digits-end (c .before .loop .inv) (c .loop-test .left)

@@ -20,8 +20,11 @@ shared-slice-read-if1 : tie.Need-shared-slice-read-if1 Inv-loop μ-loop
 shared-slice-read-if1 c = omega arith
 
 returns : tie.Need-returns Inv-loop μ-loop
-returns c = let a = c .before .before .before .before .args in
-    line-LF (a .text .now) (a .at) (c .before .before .before .loop .end) (c .before .before .before .loop .inv) (c .before .before .loop-test .taken) (c .if1 .taken)
+returns c =
+    let c4 = c .before .before .before .before in
+    let a = c4 .args in
+    line-LF (a .text .now) (a .at) (c .before .before .before .loop .end) (c .before .before .before .loop .inv)
+    (c .before .before .loop-test .taken) (c .if1 .taken)
 
 add-end : tie.Need-add-end Inv-loop μ-loop
 add-end c = omega arith
@@ -30,8 +33,11 @@ loop-less : tie.Need-loop-less Inv-loop μ-loop
 loop-less c = omega arith
 
 loop-again : tie.Need-loop-again Inv-loop μ-loop
-loop-again c = let a = c .before .before .before .before .args in
-    line-more (a .text .now) (a .at) (c .before .before .before .loop .end) (c .before .before .before .loop .inv) (c .before .before .loop-test .taken) (c .if1 .left)
+loop-again c =
+    let c4 = c .before .before .before .before in
+    let a = c4 .args in
+    line-more (a .text .now) (a .at) (c .before .before .before .loop .end) (c .before .before .before .loop .inv)
+    (c .before .before .loop-test .taken) (c .if1 .left)
 
 returns-2 : tie.Need-returns-2 Inv-loop μ-loop
 returns-2 c = let a = c .before .before .args in

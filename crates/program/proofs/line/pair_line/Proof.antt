@@ -17,27 +17,48 @@ enum-known-end : tie.Need-enum-known-end
 enum-known-end c = search needs
 
 ends-requires : tie.Need-ends-requires
-ends-requires c κs = let a = c .before .before .before .before .before .before .before .before .before .args in
-    (name-there (a .s .now) (length (a .front .now)) (pair-front (a .kind) (a .front .now) (a .back .now) (a .s .now) (sym (c .before .before .before .before .before .stands .ensures) ∙ c .before .before .before .before .if1 .taken)) (c .before .before .before .name-at .ensures) (c .before .end .given .1)) .within
+ends-requires c κs =
+    let c4 = c .before .before .before .before in
+    let c5 = c4 .before in
+    let c9 = c5 .before .before .before .before in
+    let a = c9 .args in
+    (name-there (a .s .now) (length (a .front .now)) (pair-front (a .kind) (a .front .now) (a .back .now) (a .s .now)
+    (sym (c5 .stands .ensures) ∙ c4 .if1 .taken)) (c .before .before .before .name-at .ensures) (c .before .end .given .1)) .within
 
 returns : tie.Need-returns
-returns c = let a = c .before .before .before .before .before .before .before .before .before .before .before .args in
-    pair-back (a .kind) (a .front .now) (a .back .now) (a .s .now) (sym (c .before .before .before .before .before .before .before .stands .ensures) ∙ c .before .before .before .before .before .before .if1 .taken)
-    (name-there (a .s .now) (length (a .front .now)) (pair-front (a .kind) (a .front .now) (a .back .now) (a .s .now) (sym (c .before .before .before .before .before .before .before .stands .ensures) ∙ c .before .before .before .before .before .before .if1 .taken)) (c .before .before .before .before .before .name-at .ensures) (c .before .before .before .end .given .1))
+returns c =
+    let c5 = c .before .before .before .before .before in
+    let c6 = c5 .before in
+    let c7 = c6 .before in
+    let c11 = c7 .before .before .before .before in
+    let a = c11 .args in
+    pair-back (a .kind) (a .front .now) (a .back .now) (a .s .now) (sym (c7 .stands .ensures) ∙ c6 .if1 .taken)
+    (name-there (a .s .now) (length (a .front .now)) (pair-front (a .kind) (a .front .now) (a .back .now) (a .s .now)
+    (sym (c7 .stands .ensures) ∙ c6 .if1 .taken)) (c5 .name-at .ensures) (c .before .before .before .end .given .1))
     (sym (c .before .ends .ensures) ∙ c .if2 .taken)
 
 enum-told : tie.Need-enum-told
 enum-told c = search needs
 
 returns-2 : tie.Need-returns-2
-returns-2 c = let a = c .before .before .before .before .before .before .before .before .before .before .before .args in
-    pair-no-back (a .kind) (a .front .now) (a .back .now) (a .s .now) (sym (c .before .before .before .before .before .before .before .stands .ensures) ∙ c .before .before .before .before .before .before .if1 .taken)
-    (name-there (a .s .now) (length (a .front .now)) (pair-front (a .kind) (a .front .now) (a .back .now) (a .s .now) (sym (c .before .before .before .before .before .before .before .stands .ensures) ∙ c .before .before .before .before .before .before .if1 .taken)) (c .before .before .before .before .before .name-at .ensures) (c .before .before .before .end .given .1))
+returns-2 c =
+    let c5 = c .before .before .before .before .before in
+    let c6 = c5 .before in
+    let c7 = c6 .before in
+    let c11 = c7 .before .before .before .before in
+    let a = c11 .args in
+    pair-no-back (a .kind) (a .front .now) (a .back .now) (a .s .now) (sym (c7 .stands .ensures) ∙ c6 .if1 .taken)
+    (name-there (a .s .now) (length (a .front .now)) (pair-front (a .kind) (a .front .now) (a .back .now) (a .s .now)
+    (sym (c7 .stands .ensures) ∙ c6 .if1 .taken)) (c5 .name-at .ensures) (c .before .before .before .end .given .1))
     (sym (c .before .ends .ensures) ∙ c .if2 .left)
 
 returns-3 : tie.Need-returns-3
-returns-3 c = let a = c .before .before .before .before .before .before .before .before .args in
-    pair-no-name (a .kind) (a .front .now) (a .back .now) (a .s .now) (sym (c .before .before .before .before .stands .ensures) ∙ c .before .before .before .if1 .taken) (c .before .before .name-at .ensures) (c .enum-told .given .1)
+returns-3 c =
+    let c4 = c .before .before .before .before in
+    let c8 = c4 .before .before .before .before in
+    let a = c8 .args in
+    pair-no-name (a .kind) (a .front .now) (a .back .now) (a .s .now) (sym (c4 .stands .ensures) ∙ c .before .before .before .if1 .taken)
+    (c .before .before .name-at .ensures) (c .enum-told .given .1)
 
 returns-4 : tie.Need-returns-4
 returns-4 c = let a = c .before .before .before .before .before .args in

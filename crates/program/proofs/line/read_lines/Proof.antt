@@ -46,11 +46,18 @@ loop-less : tie.Need-loop-less Inv-loop μ-loop
 loop-less c = omega arith
 
 loop-again : tie.Need-loop-again Inv-loop μ-loop
-loop-again c = let m = c .before .before .before .before .before .before .before .before .loop in
-    let e = c .before .before .before .before .before .before .line-end .ensures in (
+loop-again c =
+    let c4 = c .before .before .before .before in
+    let c6 = c4 .before .before in
+    let c7 = c6 .before in
+    let c8 = c7 .before in
+    let c11 = c8 .before .before .before in
+    let m = c8 .loop in
+    let e = c6 .line-end .ensures in (
       m .inv .0,
-      lines-next (c .before .before .before .before .before .before .before .before .before .before .before .args .text .now) (m .list) (m .at) (m .lines) (m .inv .1) (c .before .before .before .before .before .before .before .loop-test .taken) (c .before .before .before .before .before .before .line-end .result) (e .0) (e .1)
-          (c .before .before .before .before .numbers-of .result) (c .before .before .store .last .1 .0) (c .before .before .before .before .numbers-of .ensures) (c .before .before .store .kept .1 .0) (c .before .before .store .ensures),
+      lines-next (c11 .args .text .now) (m .list) (m .at) (m .lines) (m .inv .1) (c7 .loop-test .taken) (c6 .line-end .result) (e .0) (e .1)
+          (c4 .numbers-of .result) (c .before .before .store .last .1 .0) (c4 .numbers-of .ensures) (c .before .before .store .kept .1 .0)
+          (c .before .before .store .ensures),
     )
 
 same-length : tie.Need-same-length Inv-loop μ-loop

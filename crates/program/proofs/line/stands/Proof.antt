@@ -31,7 +31,10 @@ shared-slice-read-if2-2 : tie.Need-shared-slice-read-if2-2 Inv-loop μ-loop
 shared-slice-read-if2-2 c = omega arith
 
 returns-2 : tie.Need-returns-2 Inv-loop μ-loop
-returns-2 c = stands-other (c .before .before .before .before .before .loop .inv .1) (c .before .before .before .before .loop-test .taken) (omega arith) (c .if2 .taken)
+returns-2 c =
+    let c4 = c .before .before .before .before in
+    let c5 = c4 .before in
+    stands-other (c5 .loop .inv .1) (c4 .loop-test .taken) (omega arith) (c .if2 .taken)
 
 add-i : tie.Need-add-i Inv-loop μ-loop
 add-i c = omega arith
@@ -40,7 +43,10 @@ loop-less : tie.Need-loop-less Inv-loop μ-loop
 loop-less c = omega arith
 
 loop-again : tie.Need-loop-again Inv-loop μ-loop
-loop-again c = (c .before .before .before .before .before .loop .inv .0, stands-more (c .before .before .before .before .before .loop .inv .1) (c .before .before .before .before .loop-test .taken) (omega arith) (c .if2 .left))
+loop-again c =
+    let c4 = c .before .before .before .before in
+    let c5 = c4 .before in
+    (c5 .loop .inv .0, stands-more (c5 .loop .inv .1) (c4 .loop-test .taken) (omega arith) (c .if2 .left))
 
 returns-3 : tie.Need-returns-3 Inv-loop μ-loop
 returns-3 c = stands-end (c .before .loop .inv .1) (c .loop-test .left)

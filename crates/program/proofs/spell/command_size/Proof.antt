@@ -66,7 +66,8 @@ returns-6 c = let a = c .before .before .args in
 returns-7 : tie.Need-returns-7
 returns-7 c = let a = c .before .before .args in
     let r = c .match .rest in
-    let e = line-7 (a .kind) (a .index) (a .source) (r .0 .0 .0 .0 .0 .1) (r .0 .0 .0 .0 .1) (r .0 .0 .0 .1) (r .0 .0 .1) (r .0 .1) (r .1) in
+    let e = line-7 (a .kind) (a .index) (a .source) (r .0 .0 .0 .0 .0 .1) (r .0 .0 .0 .0 .1) (r .0 .0 .0 .1) (r .0 .0 .1) (r .0 .1) (r .1)
+    in
     (rw e (simp length-append (omega arith)), omega arith)
 
 pub command-size-spec : {M : Type 1} → statement M

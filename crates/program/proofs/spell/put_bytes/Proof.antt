@@ -9,7 +9,8 @@ use Rattle.program.proofs.spell.put_bytes.Statement.{statement}
 use Rattle.program.proofs.spell.put_bytes.Tie as tie
 
 abbrev Inv-loop : tie.InvT-loop
-Inv-loop out₀ at word i₀ out i = (i ≤ length word) × (at + length word ≤ length out₀) × (length out ≡ length out₀) × (out ≡ sets out₀ at (take i word))
+Inv-loop out₀ at word i₀ out i =
+    (i ≤ length word) × (at + length word ≤ length out₀) × (length out ≡ length out₀) × (out ≡ sets out₀ at (take i word))
 
 abbrev μ-loop : tie.MeasureT-loop
 μ-loop out₀ at word i₀ out i = length word - i
@@ -34,8 +35,13 @@ loop-less c = omega arith
 
 loop-again : tie.Need-loop-again Inv-loop μ-loop
 loop-again c = let m = c .before .before .loop in
-    let a = c .before .before .before .args in
-    (omega arith, m .inv .1, simp length-set (m .inv .2), sets-more (a .out .now) (m .out) (a .word .now) (a .at) (m .i) (c .before .loop-test .taken) (m .inv .3))
+    let a = c .before .before .before .args in (
+      omega arith,
+      m .inv .1,
+      simp length-set (m .inv .2),
+      sets-more (a .out .now) (m .out) (a .word .now) (a .at) (m .i)
+          (c .before .loop-test .taken) (m .inv .3),
+    )
 
 add-result : tie.Need-add-result Inv-loop μ-loop
 add-result c = omega arith

@@ -16,8 +16,10 @@ slice-aggregate-put-around-2 : tie.Need-slice-aggregate-put-around-2
 slice-aggregate-put-around-2 c = search needs
 
 put-around-requires : tie.Need-put-around-requires
-put-around-requires c κs = let a = c .before .before .before .before .before .args in
-    (c .before .before .before .before .before .pre .0, rw (line-1 (a .kind) (a .index) (a .source) (c .before .before .before .match .keys1)) at (c .before .before .before .before .before .pre .2))
+put-around-requires c κs =
+    let c5 = c .before .before .before .before .before in
+    let a = c5 .args in
+    (c5 .pre .0, rw (line-1 (a .kind) (a .index) (a .source) (c .before .before .before .match .keys1)) at (c5 .pre .2))
 
 slice-aggregate-put-around-3 : tie.Need-slice-aggregate-put-around-3
 slice-aggregate-put-around-3 c = search needs
@@ -26,9 +28,11 @@ slice-aggregate-put-around-4 : tie.Need-slice-aggregate-put-around-4
 slice-aggregate-put-around-4 c = search needs
 
 put-around-requires-2 : tie.Need-put-around-requires-2
-put-around-requires-2 c κs = let a = c .before .before .before .before .before .args in
-    let h = rw (line-2 (a .kind) (a .index) (a .source) (c .before .before .before .match .keys2)) at (c .before .before .before .before .before .pre .2) in
-    (c .before .before .before .before .before .pre .0, omega (arith, h, length-append (name-of (a .index) ++ bytes " <- ") (name-of (a .index) ++ bytes " + 1\n")))
+put-around-requires-2 c κs =
+    let c5 = c .before .before .before .before .before in
+    let a = c5 .args in
+    let h = rw (line-2 (a .kind) (a .index) (a .source) (c .before .before .before .match .keys2)) at (c5 .pre .2) in
+    (c5 .pre .0, omega (arith, h, length-append (name-of (a .index) ++ bytes " <- ") (name-of (a .index) ++ bytes " + 1\n")))
 
 slice-aggregate-put-around-5 : tie.Need-slice-aggregate-put-around-5
 slice-aggregate-put-around-5 c = search needs
@@ -37,9 +41,22 @@ slice-aggregate-put-around-6 : tie.Need-slice-aggregate-put-around-6
 slice-aggregate-put-around-6 c = search needs
 
 put-around-requires-3 : tie.Need-put-around-requires-3
-put-around-requires-3 c κs = let a = c .before .before .before .before .before .before .before .before .before .before .before .args in
-    let h = rw (line-2 (a .kind) (a .index) (a .source) (c .before .before .before .before .before .before .before .before .before .match .keys2)) at (c .before .before .before .before .before .before .before .before .before .before .before .pre .2) in
-    (c .before .before .before .before .before .before .before .before .before .before .before .pre .0, omega (arith, h, c .before .before .before .before .before .put-around2 .ensures .ended, c .before .before .before .before .before .put-around2 .kept .0, length-append (name-of (a .index) ++ bytes " <- ") (name-of (a .index) ++ bytes " + 1\n")))
+put-around-requires-3 c κs =
+    let c5 = c .before .before .before .before .before in
+    let c9 = c5 .before .before .before .before in
+    let c11 = c9 .before .before in
+    let a = c11 .args in
+    let h = rw (line-2 (a .kind) (a .index) (a .source) (c9 .match .keys2)) at (c11 .pre .2) in (
+      c11 .pre .0,
+      omega (
+        arith,
+        h,
+        c5 .put-around2 .ensures .ended,
+        c5 .put-around2 .kept .0,
+        length-append
+            (name-of (a .index) ++ bytes " <- ") (name-of (a .index) ++ bytes " + 1\n"),
+      ),
+    )
 
 slice-aggregate-put-around-7 : tie.Need-slice-aggregate-put-around-7
 slice-aggregate-put-around-7 c = search needs
@@ -48,9 +65,11 @@ slice-aggregate-put-around-8 : tie.Need-slice-aggregate-put-around-8
 slice-aggregate-put-around-8 c = search needs
 
 put-around-requires-4 : tie.Need-put-around-requires-4
-put-around-requires-4 c κs = let a = c .before .before .before .before .before .args in
-    let h = rw (line-3 (a .kind) (a .index) (a .source) (c .before .before .before .match .keys3)) at (c .before .before .before .before .before .pre .2) in
-    (c .before .before .before .before .before .pre .0, omega (arith, h, length-append (name-of (a .index) ++ bytes " <- ") (name-of (a .source) ++ bytes "\n")))
+put-around-requires-4 c κs =
+    let c5 = c .before .before .before .before .before in
+    let a = c5 .args in
+    let h = rw (line-3 (a .kind) (a .index) (a .source) (c .before .before .before .match .keys3)) at (c5 .pre .2) in
+    (c5 .pre .0, omega (arith, h, length-append (name-of (a .index) ++ bytes " <- ") (name-of (a .source) ++ bytes "\n")))
 
 slice-aggregate-put-around-9 : tie.Need-slice-aggregate-put-around-9
 slice-aggregate-put-around-9 c = search needs
@@ -59,9 +78,22 @@ slice-aggregate-put-around-10 : tie.Need-slice-aggregate-put-around-10
 slice-aggregate-put-around-10 c = search needs
 
 put-around-requires-5 : tie.Need-put-around-requires-5
-put-around-requires-5 c κs = let a = c .before .before .before .before .before .before .before .before .before .before .before .args in
-    let h = rw (line-3 (a .kind) (a .index) (a .source) (c .before .before .before .before .before .before .before .before .before .match .keys3)) at (c .before .before .before .before .before .before .before .before .before .before .before .pre .2) in
-    (c .before .before .before .before .before .before .before .before .before .before .before .pre .1, omega (arith, h, c .before .before .before .before .before .put-around4 .ensures .ended, c .before .before .before .before .before .put-around4 .kept .0, length-append (name-of (a .index) ++ bytes " <- ") (name-of (a .source) ++ bytes "\n")))
+put-around-requires-5 c κs =
+    let c5 = c .before .before .before .before .before in
+    let c9 = c5 .before .before .before .before in
+    let c11 = c9 .before .before in
+    let a = c11 .args in
+    let h = rw (line-3 (a .kind) (a .index) (a .source) (c9 .match .keys3)) at (c11 .pre .2) in (
+      c11 .pre .1,
+      omega (
+        arith,
+        h,
+        c5 .put-around4 .ensures .ended,
+        c5 .put-around4 .kept .0,
+        length-append
+            (name-of (a .index) ++ bytes " <- ") (name-of (a .source) ++ bytes "\n"),
+      ),
+    )
 
 slice-aggregate-put-around-11 : tie.Need-slice-aggregate-put-around-11
 slice-aggregate-put-around-11 c = search needs
@@ -70,8 +102,10 @@ slice-aggregate-put-around-12 : tie.Need-slice-aggregate-put-around-12
 slice-aggregate-put-around-12 c = search needs
 
 put-around-requires-6 : tie.Need-put-around-requires-6
-put-around-requires-6 c κs = let a = c .before .before .before .before .before .args in
-    (c .before .before .before .before .before .pre .0, rw (line-4 (a .kind) (a .index) (a .source) (c .before .before .before .match .keys4)) at (c .before .before .before .before .before .pre .2))
+put-around-requires-6 c κs =
+    let c5 = c .before .before .before .before .before in
+    let a = c5 .args in
+    (c5 .pre .0, rw (line-4 (a .kind) (a .index) (a .source) (c .before .before .before .match .keys4)) at (c5 .pre .2))
 
 slice-aggregate-put-around-13 : tie.Need-slice-aggregate-put-around-13
 slice-aggregate-put-around-13 c = search needs
@@ -80,8 +114,10 @@ slice-aggregate-put-around-14 : tie.Need-slice-aggregate-put-around-14
 slice-aggregate-put-around-14 c = search needs
 
 put-around-requires-7 : tie.Need-put-around-requires-7
-put-around-requires-7 c κs = let a = c .before .before .before .before .before .args in
-    (c .before .before .before .before .before .pre .0, rw (line-5 (a .kind) (a .index) (a .source) (c .before .before .before .match .keys5)) at (c .before .before .before .before .before .pre .2))
+put-around-requires-7 c κs =
+    let c5 = c .before .before .before .before .before in
+    let a = c5 .args in
+    (c5 .pre .0, rw (line-5 (a .kind) (a .index) (a .source) (c .before .before .before .match .keys5)) at (c5 .pre .2))
 
 slice-aggregate-put-around-15 : tie.Need-slice-aggregate-put-around-15
 slice-aggregate-put-around-15 c = search needs
@@ -90,8 +126,10 @@ slice-aggregate-put-around-16 : tie.Need-slice-aggregate-put-around-16
 slice-aggregate-put-around-16 c = search needs
 
 put-around-requires-8 : tie.Need-put-around-requires-8
-put-around-requires-8 c κs = let a = c .before .before .before .before .before .args in
-    (c .before .before .before .before .before .pre .0, rw (line-6 (a .kind) (a .index) (a .source) (c .before .before .before .match .keys6)) at (c .before .before .before .before .before .pre .2))
+put-around-requires-8 c κs =
+    let c5 = c .before .before .before .before .before in
+    let a = c5 .args in
+    (c5 .pre .0, rw (line-6 (a .kind) (a .index) (a .source) (c .before .before .before .match .keys6)) at (c5 .pre .2))
 
 slice-aggregate-put-around-17 : tie.Need-slice-aggregate-put-around-17
 slice-aggregate-put-around-17 c = search needs
@@ -100,59 +138,90 @@ slice-aggregate-put-around-18 : tie.Need-slice-aggregate-put-around-18
 slice-aggregate-put-around-18 c = search needs
 
 put-around-requires-9 : tie.Need-put-around-requires-9
-put-around-requires-9 c κs = let a = c .before .before .before .before .before .args in
-    let r = c .before .before .before .match .rest in
-    (c .before .before .before .before .before .pre .0, rw (line-7 (a .kind) (a .index) (a .source) (r .0 .0 .0 .0 .0 .1) (r .0 .0 .0 .0 .1) (r .0 .0 .0 .1) (r .0 .0 .1) (r .0 .1) (r .1)) at (c .before .before .before .before .before .pre .2))
+put-around-requires-9 c κs =
+    let c5 = c .before .before .before .before .before in
+    let a = c5 .args in
+    let r = c .before .before .before .match .rest in (
+      c5 .pre .0,
+      rw (line-7 (a .kind) (a .index) (a .source) (r .0 .0 .0 .0 .0 .1) (r .0 .0 .0 .0 .1) (r .0 .0 .0 .1) (r .0 .0 .1)
+          (r .0 .1) (r .1)) at (c5 .pre .2),
+    )
 
 same-length : tie.Need-same-length
 same-length c = search needs
 
 returns : tie.Need-returns
-returns c = let a = c .before .before .before .before .before .before .before .before .args in
-    rw (line-1 (a .kind) (a .index) (a .source) (c .before .before .before .before .before .before .match .keys1)) (c .before .before .put-around .ensures)
+returns c =
+    let c6 = c .before .before .before .before .before .before in
+    let c8 = c6 .before .before in
+    let a = c8 .args in
+    rw (line-1 (a .kind) (a .index) (a .source) (c6 .match .keys1)) (c .before .before .put-around .ensures)
 
 same-length-2 : tie.Need-same-length-2
 same-length-2 c = search needs
 
 returns-2 : tie.Need-returns-2
-returns-2 c = let a = c .before .before .before .before .before .before .before .before .before .before .before .before .before .before .args in
-    rw (line-2 (a .kind) (a .index) (a .source) (c .before .before .before .before .before .before .before .before .before .before .before .before .match .keys2)) (put-then (c .before .before .before .before .before .before .before .before .put-around2 .ensures) (c .before .before .put-around3 .ensures))
+returns-2 c =
+    let c8 = c .before .before .before .before .before .before .before .before in
+    let c12 = c8 .before .before .before .before in
+    let c14 = c12 .before .before in
+    let a = c14 .args in
+    rw (line-2 (a .kind) (a .index) (a .source) (c12 .match .keys2)) (put-then (c8 .put-around2 .ensures)
+    (c .before .before .put-around3 .ensures))
 
 same-length-3 : tie.Need-same-length-3
 same-length-3 c = search needs
 
 returns-3 : tie.Need-returns-3
-returns-3 c = let a = c .before .before .before .before .before .before .before .before .before .before .before .before .before .before .args in
-    rw (line-3 (a .kind) (a .index) (a .source) (c .before .before .before .before .before .before .before .before .before .before .before .before .match .keys3)) (put-then (c .before .before .before .before .before .before .before .before .put-around4 .ensures) (c .before .before .put-around5 .ensures))
+returns-3 c =
+    let c8 = c .before .before .before .before .before .before .before .before in
+    let c12 = c8 .before .before .before .before in
+    let c14 = c12 .before .before in
+    let a = c14 .args in
+    rw (line-3 (a .kind) (a .index) (a .source) (c12 .match .keys3)) (put-then (c8 .put-around4 .ensures)
+    (c .before .before .put-around5 .ensures))
 
 same-length-4 : tie.Need-same-length-4
 same-length-4 c = search needs
 
 returns-4 : tie.Need-returns-4
-returns-4 c = let a = c .before .before .before .before .before .before .before .before .args in
-    rw (line-4 (a .kind) (a .index) (a .source) (c .before .before .before .before .before .before .match .keys4)) (c .before .before .put-around6 .ensures)
+returns-4 c =
+    let c6 = c .before .before .before .before .before .before in
+    let c8 = c6 .before .before in
+    let a = c8 .args in
+    rw (line-4 (a .kind) (a .index) (a .source) (c6 .match .keys4)) (c .before .before .put-around6 .ensures)
 
 same-length-5 : tie.Need-same-length-5
 same-length-5 c = search needs
 
 returns-5 : tie.Need-returns-5
-returns-5 c = let a = c .before .before .before .before .before .before .before .before .args in
-    rw (line-5 (a .kind) (a .index) (a .source) (c .before .before .before .before .before .before .match .keys5)) (c .before .before .put-around7 .ensures)
+returns-5 c =
+    let c6 = c .before .before .before .before .before .before in
+    let c8 = c6 .before .before in
+    let a = c8 .args in
+    rw (line-5 (a .kind) (a .index) (a .source) (c6 .match .keys5)) (c .before .before .put-around7 .ensures)
 
 same-length-6 : tie.Need-same-length-6
 same-length-6 c = search needs
 
 returns-6 : tie.Need-returns-6
-returns-6 c = let a = c .before .before .before .before .before .before .before .before .args in
-    rw (line-6 (a .kind) (a .index) (a .source) (c .before .before .before .before .before .before .match .keys6)) (c .before .before .put-around8 .ensures)
+returns-6 c =
+    let c6 = c .before .before .before .before .before .before in
+    let c8 = c6 .before .before in
+    let a = c8 .args in
+    rw (line-6 (a .kind) (a .index) (a .source) (c6 .match .keys6)) (c .before .before .put-around8 .ensures)
 
 same-length-7 : tie.Need-same-length-7
 same-length-7 c = search needs
 
 returns-7 : tie.Need-returns-7
-returns-7 c = let a = c .before .before .before .before .before .before .before .before .args in
-    let r = c .before .before .before .before .before .before .match .rest in
-    rw (line-7 (a .kind) (a .index) (a .source) (r .0 .0 .0 .0 .0 .1) (r .0 .0 .0 .0 .1) (r .0 .0 .0 .1) (r .0 .0 .1) (r .0 .1) (r .1)) (c .before .before .put-around9 .ensures)
+returns-7 c =
+    let c6 = c .before .before .before .before .before .before in
+    let c8 = c6 .before .before in
+    let a = c8 .args in
+    let r = c6 .match .rest in
+    rw (line-7 (a .kind) (a .index) (a .source) (r .0 .0 .0 .0 .0 .1) (r .0 .0 .0 .0 .1) (r .0 .0 .0 .1) (r .0 .0 .1) (r .0 .1) (r .1))
+    (c .before .before .put-around9 .ensures)
 
 pub put-command-spec : {M : Type 1} → statement M
 put-command-spec =

@@ -14,7 +14,9 @@ slice-aggregate-put-bytes : tie.Need-slice-aggregate-put-bytes
 slice-aggregate-put-bytes c = search needs
 
 put-bytes-requires : tie.Need-put-bytes-requires
-put-bytes-requires c κs = omega (arith, ap length (name-small (c .before .before .before .before .args .index) (c .before .before .if1 .taken)))
+put-bytes-requires c κs =
+    let c4 = c .before .before .before .before in
+    omega (arith, ap length (name-small (c4 .args .index) (c .before .before .if1 .taken)))
 
 add-t16 : tie.Need-add-t16
 add-t16 c = search needs
@@ -26,19 +28,27 @@ slice-aggregate-put-bytes-2 : tie.Need-slice-aggregate-put-bytes-2
 slice-aggregate-put-bytes-2 c = search needs
 
 put-bytes-requires-2 : tie.Need-put-bytes-requires-2
-put-bytes-requires-2 c κs = omega (arith, ap length (name-large (c .before .before .before .before .args .index) (c .before .before .if1 .left) (omega arith)))
+put-bytes-requires-2 c κs =
+    let c4 = c .before .before .before .before in
+    omega (arith, ap length (name-large (c4 .args .index) (c .before .before .if1 .left) (omega arith)))
 
 same-length : tie.Need-same-length
 same-length c = search needs
 
 returns : tie.Need-returns
-returns c = rw (name-small (c .before .before .before .before .before .before .before .args .index) (c .before .before .before .before .before .if1 .taken)) (c .before .before .put-bytes .ensures)
+returns c =
+    let c5 = c .before .before .before .before .before in
+    let c7 = c5 .before .before in
+    rw (name-small (c7 .args .index) (c5 .if1 .taken)) (c .before .before .put-bytes .ensures)
 
 same-length-2 : tie.Need-same-length-2
 same-length-2 c = search needs
 
 returns-2 : tie.Need-returns-2
-returns-2 c = rw (name-large (c .before .before .before .before .before .before .before .args .index) (c .before .before .before .before .before .if1 .left) (omega arith)) (c .before .before .put-bytes2 .ensures)
+returns-2 c =
+    let c5 = c .before .before .before .before .before in
+    let c7 = c5 .before .before in
+    rw (name-large (c7 .args .index) (c5 .if1 .left) (omega arith)) (c .before .before .put-bytes2 .ensures)
 
 pub put-name-spec : {M : Type 1} → statement M
 put-name-spec =

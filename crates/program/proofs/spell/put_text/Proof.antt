@@ -13,7 +13,11 @@ abbrev μ-loop : tie.MeasureT-loop
 μ-loop list text₀ i₀ at₀ text i at = length list - i
 
 loop-holds : tie.Need-loop-holds Inv-loop μ-loop
-loop-holds c = (omega arith, text-start (c .before .before .args .list .now) (c .before .before .args .text .now) (c .before .before .pre .0) (c .before .before .pre .1))
+loop-holds c = (
+  omega arith,
+  text-start (c .before .before .args .list .now) (c .before .before .args .text .now) (c .before .before .pre .0)
+      (c .before .before .pre .1),
+)
 
 add-loop : tie.Need-add-loop Inv-loop μ-loop
 add-loop c = omega arith
@@ -45,7 +49,13 @@ loop-less : tie.Need-loop-less Inv-loop μ-loop
 loop-less c = omega arith
 
 loop-again : tie.Need-loop-again Inv-loop μ-loop
-loop-again c = (omega arith, text-more (c .before .before .before .before .before .before .before .before .loop .inv .1) (c .before .before .before .before .before .before .before .loop-test .taken) (c .before .before .put-command .kept .0) (c .before .before .put-command .ensures))
+loop-again c =
+    let c7 = c .before .before .before .before .before .before .before in
+    let c8 = c7 .before in (
+      omega arith,
+      text-more (c8 .loop .inv .1) (c7 .loop-test .taken) (c .before .before .put-command .kept .0)
+          (c .before .before .put-command .ensures),
+    )
 
 same-length : tie.Need-same-length Inv-loop μ-loop
 same-length c = c .before .loop .inv .1 .same

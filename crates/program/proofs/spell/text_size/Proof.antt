@@ -34,7 +34,9 @@ shared-slice-read-command-size-3 : tie.Need-shared-slice-read-command-size-3 Inv
 shared-slice-read-command-size-3 c = omega arith
 
 command-size-requires : tie.Need-command-size-requires Inv-loop μ-loop
-command-size-requires c κs = let x = next (c .before .before .before .before .loop .inv .1 .left) (c .before .before .before .loop-test .taken) in
+command-size-requires c κs =
+    let c4 = c .before .before .before .before in
+    let x = next (c4 .loop .inv .1 .left) (c .before .before .before .loop-test .taken) in
     (x .index, x .source)
 
 add-size : tie.Need-add-size Inv-loop μ-loop
@@ -48,7 +50,10 @@ loop-less : tie.Need-loop-less Inv-loop μ-loop
 loop-less c = omega arith
 
 loop-again : tie.Need-loop-again Inv-loop μ-loop
-loop-again c = (omega arith, size-next (c .before .before .before .before .before .loop .inv .1) (c .before .before .before .before .loop-test .taken) _ (c .command-size .ensures .0))
+loop-again c =
+    let c4 = c .before .before .before .before in
+    let c5 = c4 .before in
+    (omega arith, size-next (c5 .loop .inv .1) (c4 .loop-test .taken) _ (c .command-size .ensures .0))
 
 returns : tie.Need-returns Inv-loop μ-loop
 returns c = size-whole (c .before .loop .inv .1) (c .loop-test .left)

@@ -1,5 +1,6 @@
 -- `put_refusal` meets its contract: the word `refused`, the number, and the place.
-use Rattle.report.proofs.Puts.{put-then, refusal-parts}
+use native.Mathlib.Omega.{arith}
+use Rattle.report.proofs.Puts.{few-then, few-text, refusal-parts}
 use borrow.Author.Needs.{needs}
 use Rattle.report.proofs.writing.put_refusal.Statement.{statement}
 use Rattle.report.proofs.writing.put_refusal.Tie as tie
@@ -27,8 +28,8 @@ returns c =
     let at-number = c .before .before .before .before .before .before in
     let at-text = at-number .before .before .before .before .before in
     let start = at-text .before .before .before .before in
-    let rest = put-then (at-number .put-field .ensures .put) (c .before .before .put-field2 .ensures .put) in
-    rw (refusal-parts (start .args .refusal)) (put-then (at-text .put-text .ensures) rest)
+    let rest = few-then {most = 42} (omega arith) (at-number .put-field .ensures) (c .before .before .put-field2 .ensures) in
+    rw (refusal-parts (start .args .refusal)) (few-then (omega arith) (few-text {most = 8} (at-text .put-text .ensures) (omega arith)) rest)
 
 pub put-refusal-spec : {M : Type 1} → statement M
 put-refusal-spec =

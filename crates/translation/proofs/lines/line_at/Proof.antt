@@ -1,51 +1,38 @@
+-- `line_at` meets its contract: each number is read at its place.
 use borrow.Author.Needs.{needs}
 use Rattle.translation.proofs.lines.line_at.Statement.{statement}
 use Rattle.translation.proofs.lines.line_at.Tie as tie
-use Rattle.translation.proofs.lines.line_at.Reads as reads
-use Rattle.translation.proofs.lines.line_at.Lts as lts
-use Rattle.translation.proofs.pieces.wide.Reads as wide-reads
 
--- src/lines.rt:20:23
 mul-t3 : tie.Need-mul-t3
 mul-t3 c = search needs
 
--- src/lines.rt:20:18
 shared-slice-read-t5 : tie.Need-shared-slice-read-t5
 shared-slice-read-t5 c = search needs
 
--- src/lines.rt:20:57
 mul-wide : tie.Need-mul-wide
 mul-wide c = search needs
 
--- src/lines.rt:20:57
 add-wide : tie.Need-add-wide
 add-wide c = search needs
 
--- src/lines.rt:20:52
 shared-slice-read-wide : tie.Need-shared-slice-read-wide
 shared-slice-read-wide c = search needs
 
--- src/lines.rt:20:39
 wide-requires : tie.Need-wide-requires
 wide-requires c κs = search needs
 
--- src/lines.rt:20:97
 mul-wide-2 : tie.Need-mul-wide-2
 mul-wide-2 c = search needs
 
--- src/lines.rt:20:97
 add-wide-2 : tie.Need-add-wide-2
 add-wide-2 c = search needs
 
--- src/lines.rt:20:92
 shared-slice-read-wide-2 : tie.Need-shared-slice-read-wide-2
 shared-slice-read-wide-2 c = search needs
 
--- src/lines.rt:20:79
 wide-requires-2 : tie.Need-wide-requires-2
 wide-requires-2 c κs = search needs
 
--- src/lines.rt:16:1
 returns : tie.Need-returns
 returns c = cc
 

@@ -1,32 +1,24 @@
+-- `after_body` meets its contract: by the kind of pair.
 use borrow.Author.Needs.{needs}
 use borrow.Author.Tests.{eq-eqb, ne-eqb}
 use Rattle.translation.proofs.pieces.after_body.Statement.{statement}
 use Rattle.translation.proofs.pieces.after_body.Tie as tie
-use Rattle.translation.proofs.pieces.after_body.Reads as reads
-use Rattle.translation.proofs.pieces.after_body.Lts as lts
-use Rattle.translation.proofs.pieces.backward.Reads as backward-reads
 
--- src/pieces.rt:113:23
 add-backward : tie.Need-add-backward
 add-backward c = search needs
 
--- src/pieces.rt:113:14
 backward-requires : tie.Need-backward-requires
 backward-requires c κs = search needs
 
--- src/pieces.rt:114:23
 add-backward-2 : tie.Need-add-backward-2
 add-backward-2 c = search needs
 
--- src/pieces.rt:114:14
 backward-requires-2 : tie.Need-backward-requires-2
 backward-requires-2 c κs = search needs
 
--- src/pieces.rt:108:1
 returns : tie.Need-returns
 returns c = rw (eq-eqb _ 4 (c .before .match .keys1)) (c .backward .ensures)
 
--- src/pieces.rt:108:1
 returns-2 : tie.Need-returns-2
 returns-2 c = rw (ne-eqb _ 4 (c .before .match .rest .1)) (c .backward2 .ensures)
 

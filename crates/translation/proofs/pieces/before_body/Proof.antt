@@ -1,25 +1,18 @@
+-- `before_body` meets its contract: by the kind of pair.
 use borrow.Author.Needs.{needs}
 use borrow.Author.Tests.{eq-eqb, ne-eqb}
 use Rattle.translation.proofs.pieces.before_body.Statement.{statement}
 use Rattle.translation.proofs.pieces.before_body.Tie as tie
-use Rattle.translation.proofs.pieces.before_body.Reads as reads
-use Rattle.translation.proofs.pieces.before_body.Lts as lts
-use Rattle.translation.proofs.pieces.before_loop.Reads as before-loop-reads
-use Rattle.translation.proofs.pieces.before_while.Reads as before-while-reads
 
--- src/pieces.rt:102:14
 before-loop-requires : tie.Need-before-loop-requires
 before-loop-requires c κs = search needs
 
--- src/pieces.rt:103:14
 before-while-requires : tie.Need-before-while-requires
 before-while-requires c κs = search needs
 
--- src/pieces.rt:96:1
 returns : tie.Need-returns
 returns c = rw (eq-eqb _ 4 (c .before .match .keys1)) (c .before-loop .ensures)
 
--- src/pieces.rt:96:1
 returns-2 : tie.Need-returns-2
 returns-2 c = rw (ne-eqb _ 4 (c .before .match .rest .1)) (c .before-while .ensures)
 

@@ -1,20 +1,16 @@
+-- `deeper` meets its contract: by the kind of pair.
 use native.Mathlib.Numerals.{add-one}
 use borrow.Author.Needs.{needs}
 use borrow.Author.Tests.{eq-eqb, ne-eqb}
 use Rattle.translation.proofs.pieces.deeper.Statement.{statement}
 use Rattle.translation.proofs.pieces.deeper.Tie as tie
-use Rattle.translation.proofs.pieces.deeper.Reads as reads
-use Rattle.translation.proofs.pieces.deeper.Lts as lts
 
--- src/pieces.rt:124:14
 add-result : tie.Need-add-result
 add-result c = search needs
 
--- src/pieces.rt:119:1
 returns : tie.Need-returns
 returns c = rw (eq-eqb _ 4 (c .match .keys1)) (add-one _)
 
--- src/pieces.rt:119:1
 returns-2 : tie.Need-returns-2
 returns-2 c = rw (ne-eqb _ 4 (c .match .rest .1))
 

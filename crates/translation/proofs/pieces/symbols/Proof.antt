@@ -1,3 +1,4 @@
+-- `symbols` meets its contract. The loop's invariant: the sum so far and that of the entries left are the whole.
 use Prim.Native.Nat.{_≤_, _+_, _-_}
 use mathlib.Core.Path.{_≡_}
 use native.Mathlib.Omega.{arith}
@@ -8,9 +9,6 @@ use Rattle.translation.specs.Pieces.{table}
 use Rattle.translation.proofs.Tables.{total-from, total-ends}
 use Rattle.translation.proofs.pieces.symbols.Statement.{statement}
 use Rattle.translation.proofs.pieces.symbols.Tie as tie
-use Rattle.translation.proofs.pieces.symbols.Reads as reads
-use Rattle.translation.proofs.pieces.symbols.Lts as lts
-use Rattle.translation.proofs.pieces.wide.Reads as wide-reads
 
 abbrev Inv-loop : tie.InvT-loop
 Inv-loop piece sum₀ i₀ sum i = (i ≤ piece .count) × (sum + total (drop i (table piece)) ≡ total (table piece))
@@ -18,53 +16,42 @@ Inv-loop piece sum₀ i₀ sum i = (i ≤ piece .count) × (sum + total (drop i 
 abbrev μ-loop : tie.MeasureT-loop
 μ-loop piece sum₀ i₀ sum i = piece .count - i
 
--- src/pieces.rt:136:5
 loop-holds : tie.Need-loop-holds Inv-loop μ-loop
 loop-holds c = search needs
 
--- src/pieces.rt:137:16
 mul-sum : tie.Need-mul-sum Inv-loop μ-loop
 mul-sum c = search needs
 
--- src/pieces.rt:137:16
 element-copy-out-sum : tie.Need-element-copy-out-sum Inv-loop μ-loop
 element-copy-out-sum c = search needs
 
--- src/pieces.rt:137:41
 element-copy-out-wide : tie.Need-element-copy-out-wide Inv-loop μ-loop
 element-copy-out-wide c = search needs
 
--- src/pieces.rt:137:36
 wide-requires : tie.Need-wide-requires Inv-loop μ-loop
 wide-requires c κs = search needs
 
--- src/pieces.rt:137:16
 add-sum : tie.Need-add-sum Inv-loop μ-loop
 add-sum c =
     let h : _ = total-from (c .before .before .before .before .before .args .t1) _ (c .before .before .before .loop-test .taken) in
     omega arith
 
--- src/pieces.rt:137:9
 add-sum-2 : tie.Need-add-sum-2 Inv-loop μ-loop
 add-sum-2 c =
     let h : _ = total-from (c .before .before .before .before .before .args .t1) _ (c .before .before .before .loop-test .taken) in
     omega arith
 
--- src/pieces.rt:138:9
 add-i : tie.Need-add-i Inv-loop μ-loop
 add-i c = search needs
 
--- src/pieces.rt:136:5
 loop-less : tie.Need-loop-less Inv-loop μ-loop
 loop-less c = search needs
 
--- src/pieces.rt:136:5
 loop-again : tie.Need-loop-again Inv-loop μ-loop
 loop-again c =
     let h : _ = total-from (c .before .before .before .before .before .args .t1) _ (c .before .before .before .loop-test .taken) in
     omega arith
 
--- src/pieces.rt:130:1
 returns : tie.Need-returns Inv-loop μ-loop
 returns c = omega (arith, total-ends (c .before .before .args .t1) _ (c .loop-test .left))
 

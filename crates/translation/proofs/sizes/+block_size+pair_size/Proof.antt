@@ -1,190 +1,183 @@
+-- `block_size` and `pair_size` meet their contracts. A block's loop has counted what it passed; a pair's body begins on a later line, so
+-- the measures fall.
 use mathlib.Core.Path.{sym, ap, _∙_}
 use Prim.Native.Nat.{ℕ, _<_, _+_, _-_, _*_}
 use native.Mathlib.Omega.{arith}
+use borrow.Fn.Kinds.{In}
+use borrow.Fn.PlainCycle.{Measures, is, falls, and}
 use Rattle.translation.proofs.Sites.{bounds}
 use Rattle.translation.proofs.Walks.{plain-at, pair-at, here}
 use Rattle.translation.proofs.Counting.{Counting, counting-none, counting-more, counting-steps, counting-all}
 use Rattle.translation.proofs.Counting.{plain-asks, plain-counts, pair-asks, pair-counts}
-use borrow.Fn.Kinds.{In}
-use borrow.Fn.PlainCycle.{Measures, is, falls, and}
-use Rattle.translation.proofs.sizes.block_size.Reads as block-size
-use Rattle.translation.proofs.sizes.block_size.Kinds as block-size-kinds
-use Rattle.translation.proofs.sizes.+block_size+pair_size.Lts-block_size as block-size-lts
-use Rattle.translation.proofs.sizes.pair_size.Reads as pair-size
-use Rattle.translation.proofs.sizes.pair_size.Kinds as pair-size-kinds
-use Rattle.translation.proofs.sizes.+block_size+pair_size.Lts-pair_size as pair-size-lts
-use Rattle.translation.proofs.lines.begins.Reads as begins-reads
-use Rattle.translation.proofs.lines.line_at.Reads as line-at-reads
-use Rattle.translation.proofs.pieces.deeper.Reads as deeper-reads
-use Rattle.translation.proofs.sizes.around.Reads as around-reads
-use Rattle.translation.proofs.sizes.joined.Reads as joined-reads
-use Rattle.translation.proofs.sizes.line_size.Reads as line-size-reads
+use Rattle.translation.proofs.sizes.block_size.Reads as block-reads
+use Rattle.translation.proofs.sizes.block_size.Kinds as block-kinds
+use Rattle.translation.proofs.sizes.+block_size+pair_size.Lts-block_size as block
+use Rattle.translation.proofs.sizes.pair_size.Reads as pair-reads
+use Rattle.translation.proofs.sizes.pair_size.Kinds as pair-kinds
+use Rattle.translation.proofs.sizes.+block_size+pair_size.Lts-pair_size as pair
+use Rattle.translation.proofs.lines.begins.Reads as begins
+use Rattle.translation.proofs.lines.line_at.Reads as line-at
+use Rattle.translation.proofs.pieces.deeper.Reads as deeper
+use Rattle.translation.proofs.sizes.around.Reads as around
+use Rattle.translation.proofs.sizes.joined.Reads as joined
+use Rattle.translation.proofs.sizes.line_size.Reads as line-size
 use Rattle.translation.proofs.sizes.+block_size+pair_size.{statement}
 use Rattle.translation.proofs.sizes.+block_size+pair_size.Tie.{close}
 
-abbrev μ-block-size : Measures 1 block-size-kinds.ps ℕ
-μ-block-size κs a = 2 * (a .1 .0 - a .1 .1 .1 .1 .0) + 1
+-- By the lines left
+abbrev μ-block : Measures 1 block-kinds.ps ℕ
+μ-block κs a = 2 * (a .1 .0 - a .1 .1 .1 .1 .0) + 1
 
-abbrev μ-pair-size : Measures 1 pair-size-kinds.ps ℕ
-μ-pair-size κs a = 2 * (a .1 .0 - a .1 .1 .1 .1 .0)
+abbrev μ-pair : Measures 1 pair-kinds.ps ℕ
+μ-pair κs a = 2 * (a .1 .0 - a .1 .1 .1 .1 .0)
 
-abbrev block-size-at : ℕ → In 1 block-size-kinds.ps
-block-size-at t =
-    and 1 block-size-kinds.ps (is 1 block-size-kinds.ps μ-block-size t) block-size.Pre
+abbrev Inv-loop : block.InvT-loop
+Inv-loop list lines variables depth at sum₀ sum = Counting list lines variables depth at sum
 
-abbrev block-size-below : ℕ → In 1 block-size-kinds.ps
-block-size-below t =
-    and 1 block-size-kinds.ps (falls 1 block-size-kinds.ps _<_ μ-block-size t) block-size.Pre
+abbrev μ-loop : block.MeasureT-loop
+μ-loop list lines variables depth at sum₀ sum = lines - sum .next
 
-abbrev pair-size-at : ℕ → In 1 pair-size-kinds.ps
-pair-size-at t = and 1 pair-size-kinds.ps (is 1 pair-size-kinds.ps μ-pair-size t) pair-size.Pre
+module _ (t : ℕ) where
+  -- What each may assume where its measure is t, and where it is less
+  abbrev block-at : In 1 block-kinds.ps
+  block-at = and 1 block-kinds.ps (is 1 block-kinds.ps μ-block t) block-reads.Pre
 
-abbrev pair-size-below : ℕ → In 1 pair-size-kinds.ps
-pair-size-below t =
-    and 1 pair-size-kinds.ps (falls 1 pair-size-kinds.ps _<_ μ-pair-size t) pair-size.Pre
+  abbrev block-below : In 1 block-kinds.ps
+  block-below = and 1 block-kinds.ps (falls 1 block-kinds.ps _<_ μ-block t) block-reads.Pre
 
--- What the members call
-abbrev in-block : ℕ → block-size-lts.Claims
-in-block t = (
-  begins-reads.Asked,
-  begins-reads.Learnt,
-  pair-size-below t,
-  pair-size.Post,
-  joined-reads.Asked,
-  joined-reads.Learnt,
-)
+  abbrev pair-here : In 1 pair-kinds.ps
+  pair-here = and 1 pair-kinds.ps (is 1 pair-kinds.ps μ-pair t) pair-reads.Pre
 
-abbrev in-pair : ℕ → pair-size-lts.Claims
-in-pair t = (
-  line-at-reads.Asked,
-  line-at-reads.Learnt,
-  line-size-reads.Asked,
-  line-size-reads.Learnt,
-  deeper-reads.Asked,
-  deeper-reads.Learnt,
-  block-size-below t,
-  block-size.Post,
-  around-reads.Asked,
-  around-reads.Learnt,
-)
+  abbrev pair-below : In 1 pair-kinds.ps
+  pair-below = and 1 pair-kinds.ps (falls 1 pair-kinds.ps _<_ μ-pair t) pair-reads.Pre
 
-abbrev block-size-Inv-loop : block-size-lts.InvT-loop
-block-size-Inv-loop list lines variables depth at sum₀ sum = Counting list lines variables depth at sum
+  -- What they call
+  abbrev in-block : block.Claims
+  in-block = (begins.Asked, begins.Learnt, pair-below, pair-reads.Post, joined.Asked, joined.Learnt)
 
-abbrev block-size-μ-loop : block-size-lts.MeasureT-loop
-block-size-μ-loop list lines variables depth at sum₀ sum = lines - sum .next
+  abbrev in-pair : pair.Claims
+  in-pair = (
+    line-at.Asked,
+    line-at.Learnt,
+    line-size.Asked,
+    line-size.Learnt,
+    deeper.Asked,
+    deeper.Learnt,
+    block-below,
+    block-reads.Post,
+    around.Asked,
+    around.Learnt,
+  )
 
--- src/sizes.rt:57:5
-block-size-loop-holds : (t : ℕ) → block-size-lts.Need-loop-holds (in-block t) (block-size-at t) block-size.Post block-size-Inv-loop block-size-μ-loop
-block-size-loop-holds t c = counting-none _ _ _ _ _ (c .before .pre .1)
+  block-holds : block.Need-loop-holds in-block block-at block-reads.Post Inv-loop μ-loop
+  block-holds c = counting-none _ _ _ _ _ (c .before .pre .1)
 
--- src/sizes.rt:57:11
-block-size-begins-requires : (t : ℕ) → block-size-lts.Need-begins-requires (in-block t) (block-size-at t) block-size.Post block-size-Inv-loop block-size-μ-loop
-block-size-begins-requires t c κs = c .loop .inv .passed .site .accepts
+  block-begins : block.Need-begins-requires in-block block-at block-reads.Post Inv-loop μ-loop
+  block-begins c κs = c .loop .inv .passed .site .known .accepts
 
--- src/sizes.rt:58:27
-block-size-pair-size-requires : (t : ℕ) → block-size-lts.Need-pair-size-requires (in-block t) (block-size-at t) block-size.Post block-size-Inv-loop block-size-μ-loop
-block-size-pair-size-requires t c κs =
-    let p : _ = c .before .before .loop .inv .passed in
-    (omega (arith, p .onward), (p .site, sym (c .before .begins .ensures) ∙ c .if1 .taken))
+  block-pair : block.Need-pair-size-requires in-block block-at block-reads.Post Inv-loop μ-loop
+  block-pair c κs =
+      let p : _ = c .before .before .loop .inv .passed in
+      (omega (arith, p .onward), (p .site, sym (c .before .begins .ensures) ∙ c .if1 .taken))
 
--- src/sizes.rt:58:9
-block-size-joined-requires : (t : ℕ) → block-size-lts.Need-joined-requires (in-block t) (block-size-at t) block-size.Post block-size-Inv-loop block-size-μ-loop
-block-size-joined-requires t c κs =
-    let goes : _ = sym (c .before .before .begins .ensures) ∙ c .before .if1 .taken in
-    let site : _ = c .before .before .before .before .before .pre .1 in
-    let s : _ = counting-steps _ _ _ _ _ _ _ site (c .before .before .before .loop .inv) goes (c .pair-size .ensures) in
-    (s .instructions, s .symbols)
+  block-joined : block.Need-joined-requires in-block block-at block-reads.Post Inv-loop μ-loop
+  block-joined c κs =
+      let l : _ = c .before .before .before in
+      let goes : _ = sym (c .before .before .begins .ensures) ∙ c .before .if1 .taken in
+      let s : _ = counting-steps _ _ _ _ _ _ _ (l .before .before .pre .1) (l .loop .inv) goes (c .pair-size .ensures) in
+      (s .instructions, s .symbols)
 
--- src/sizes.rt:57:5
-block-size-loop-less : (t : ℕ) → block-size-lts.Need-loop-less (in-block t) (block-size-at t) block-size.Post block-size-Inv-loop block-size-μ-loop
-block-size-loop-less t c =
-    let goes : _ = sym (c .before .before .before .begins .ensures) ∙ c .before .before .if1 .taken in
-    let site : _ = c .before .before .before .before .before .before .pre .1 in
-    let s : _ = counting-steps _ _ _ _ _ _ _ site (c .before .before .before .before .loop .inv) goes (c .before .pair-size .ensures) in
-    omega (arith, s .below, s .onward, ap (λ e. e .next) (c .joined .ensures))
+  block-less : block.Need-loop-less in-block block-at block-reads.Post Inv-loop μ-loop
+  block-less c =
+      let l : _ = c .before .before .before .before in
+      let goes : _ = sym (c .before .before .before .begins .ensures) ∙ c .before .before .if1 .taken in
+      let s : _ = counting-steps _ _ _ _ _ _ _ (l .before .before .pre .1) (l .loop .inv) goes (c .before .pair-size .ensures) in
+      omega (arith, s .below, s .onward, ap (λ e. e .next) (c .joined .ensures))
 
--- src/sizes.rt:57:5
-block-size-loop-again : (t : ℕ) → block-size-lts.Need-loop-again (in-block t) (block-size-at t) block-size.Post block-size-Inv-loop block-size-μ-loop
-block-size-loop-again t c =
-    rw (c .joined .ensures)
-    (counting-more _ _ _ _ _ _ _ (c .before .before .before .before .loop .inv) (c .before .pair-size .ensures))
+  block-again : block.Need-loop-again in-block block-at block-reads.Post Inv-loop μ-loop
+  block-again c =
+      let l : _ = c .before .before .before .before in
+      rw (c .joined .ensures) (counting-more _ _ _ _ _ _ _ (l .loop .inv) (c .before .pair-size .ensures))
 
--- src/sizes.rt:52:1
-block-size-returns : (t : ℕ) → block-size-lts.Need-returns (in-block t) (block-size-at t) block-size.Post block-size-Inv-loop block-size-μ-loop
-block-size-returns t c =
-    counting-all _ _ _ _ _ _ (c .before .before .loop .inv) (sym (c .before .begins .ensures) ∙ c .if1 .left)
+  block-returns : block.Need-returns in-block block-at block-reads.Post Inv-loop μ-loop
+  block-returns c =
+      let goes : _ = sym (c .before .begins .ensures) ∙ c .if1 .left in
+      counting-all _ _ _ _ _ _ (c .before .before .loop .inv) goes
 
--- src/sizes.rt:68:9
-pair-size-line-at-requires : (t : ℕ) → pair-size-lts.Need-line-at-requires (in-pair t) (pair-size-at t) pair-size.Post
-pair-size-line-at-requires t c κs = here _ _ _ _ _ (c .before .pre .1 .0) (c .before .pre .1 .1) .numbers
+  pair-line : pair.Need-line-at-requires in-pair pair-here pair-reads.Post
+  pair-line c κs = here _ _ _ _ _ (c .before .pre .1 .0) (c .before .pre .1 .1) .numbers
 
--- src/sizes.rt:70:9
-pair-size-line-size-requires : (t : ℕ) → pair-size-lts.Need-line-size-requires (in-pair t) (pair-size-at t) pair-size.Post
-pair-size-line-size-requires t c κs =
-    let q : _ = c .before .before .before .before .pre .1 in
-    let p : _ = plain-at _ _ _ _ _ (q .0) (q .1) _ (c .before .before .line-at .ensures) (c .if1 .taken) in
-    plain-asks _ _ _ _ _ (q .0) (q .1) _ p
+  pair-line-size : pair.Need-line-size-requires in-pair pair-here pair-reads.Post
+  pair-line-size c κs =
+      let l : _ = c .before .before in
+      let q : _ = l .before .before .pre .1 in
+      plain-asks _ _ _ _ _ (q .0) (q .1) _ (plain-at _ _ _ _ _ (q .0) (q .1) _ (l .line-at .ensures) (c .if1 .taken))
 
--- src/sizes.rt:72:13
-pair-size-deeper-requires : (t : ℕ) → pair-size-lts.Need-deeper-requires (in-pair t) (pair-size-at t) pair-size.Post
-pair-size-deeper-requires t c κs = omega (arith, bounds _ _ _ _ _ (c .before .before .before .before .pre .1 .0) .shallow)
+  pair-deeper : pair.Need-deeper-requires in-pair pair-here pair-reads.Post
+  pair-deeper c κs = omega (arith, bounds _ _ _ _ _ (c .before .before .before .before .pre .1 .0) .shallow)
 
--- src/sizes.rt:73:62
-pair-size-add-block-size : (t : ℕ) → pair-size-lts.Need-add-block-size (in-pair t) (pair-size-at t) pair-size.Post
-pair-size-add-block-size t c =
-    let q : _ = c .before .before .before .before .before .pre .1 in
-    omega (arith, here _ _ _ _ _ (q .0) (q .1) .below)
+  pair-next : pair.Need-add-block-size in-pair pair-here pair-reads.Post
+  pair-next c =
+      let q : _ = c .before .before .before .before .before .pre .1 in
+      omega (arith, here _ _ _ _ _ (q .0) (q .1) .below)
 
--- src/sizes.rt:73:13
-pair-size-block-size-requires : (t : ℕ) → pair-size-lts.Need-block-size-requires (in-pair t) (pair-size-at t) pair-size.Post
-pair-size-block-size-requires t c κs =
-    let q : _ = c .before .before .before .before .before .pre .1 in
-    let p : _ = pair-at _ _ _ _ _ (q .0) (q .1) _ (c .before .before .before .line-at .ensures) (c .before .if1 .left) in
-    (omega (arith, here _ _ _ _ _ (q .0) (q .1) .below), rw (c .deeper .ensures) (p .site))
+  pair-body : pair.Need-block-size-requires in-pair pair-here pair-reads.Post
+  pair-body c κs =
+      let l : _ = c .before .before .before in
+      let q : _ = l .before .before .pre .1 in
+      let p : _ = pair-at _ _ _ _ _ (q .0) (q .1) _ (l .line-at .ensures) (c .before .if1 .left) in
+      (omega (arith, here _ _ _ _ _ (q .0) (q .1) .below), rw (c .deeper .ensures) (p .site))
 
--- src/sizes.rt:74:9
-pair-size-around-requires : (t : ℕ) → pair-size-lts.Need-around-requires (in-pair t) (pair-size-at t) pair-size.Post
-pair-size-around-requires t c κs =
-    let q : _ = c .before .before .before .before .before .before .pre .1 in
-    let p : _ = pair-at _ _ _ _ _ (q .0) (q .1) _ (c .before .before .before .before .line-at .ensures) (c .before .before .if1 .left) in
-    pair-asks _ _ _ _ _ (q .0) (q .1) _ p _ (c .before .deeper .ensures) _ (c .block-size .ensures)
+  pair-around : pair.Need-around-requires in-pair pair-here pair-reads.Post
+  pair-around c κs =
+      let d : _ = c .before in
+      let l : _ = d .before .before .before in
+      let q : _ = l .before .before .pre .1 in
+      let p : _ = pair-at _ _ _ _ _ (q .0) (q .1) _ (l .line-at .ensures) (d .before .if1 .left) in
+      pair-asks _ _ _ _ _ (q .0) (q .1) _ p _ (d .deeper .ensures) _ (c .block-size .ensures)
 
--- src/sizes.rt:64:1
-pair-size-returns : (t : ℕ) → pair-size-lts.Need-returns (in-pair t) (pair-size-at t) pair-size.Post
-pair-size-returns t c =
-    let q : _ = c .before .before .before .before .before .pre .1 in
-    let p : _ = plain-at _ _ _ _ _ (q .0) (q .1) _ (c .before .before .before .line-at .ensures) (c .before .if1 .taken) in
-    plain-counts _ _ _ _ _ (q .0) (q .1) _ p _ (c .line-size .ensures)
+  pair-returns : pair.Need-returns in-pair pair-here pair-reads.Post
+  pair-returns c =
+      let l : _ = c .before .before .before in
+      let q : _ = l .before .before .pre .1 in
+      let p : _ = plain-at _ _ _ _ _ (q .0) (q .1) _ (l .line-at .ensures) (c .before .if1 .taken) in
+      plain-counts _ _ _ _ _ (q .0) (q .1) _ p _ (c .line-size .ensures)
 
--- src/sizes.rt:64:1
-pair-size-returns-2 : (t : ℕ) → pair-size-lts.Need-returns-2 (in-pair t) (pair-size-at t) pair-size.Post
-pair-size-returns-2 t c =
-    let q : _ = c .before .before .before .before .before .before .before .pre .1 in
-    let p : _ = pair-at _ _ _ _ _ (q .0) (q .1) _ (c .before .before .before .before .before .line-at .ensures) (c .before .before .before .if1 .left) in
-    pair-counts _ _ _ _ _ (q .0) (q .1) _ p _ (c .before .before .deeper .ensures) _ (c .before .block-size .ensures) _ (c .around .ensures)
+  pair-returns-2 : pair.Need-returns-2 in-pair pair-here pair-reads.Post
+  pair-returns-2 c =
+      let d : _ = c .before .before in
+      let l : _ = d .before .before .before in
+      let q : _ = l .before .before .pre .1 in
+      let p : _ = pair-at _ _ _ _ _ (q .0) (q .1) _ (l .line-at .ensures) (d .before .if1 .left) in
+      pair-counts _ _ _ _ _ (q .0) (q .1) _ p _ (d .deeper .ensures) _ (c .before .block-size .ensures) _ (c .around .ensures)
 
 pub +block-size+pair-size-spec : {M : Type 1} → statement M
-+block-size+pair-size-spec = close μ-block-size μ-pair-size (λ t. block-size-lts.spec (in-block t)
-    (block-size-at t)
-    block-size.Post
-    block-size-Inv-loop
-    block-size-μ-loop
-    (block-size-loop-holds t)
-    (block-size-begins-requires t)
-    (block-size-pair-size-requires t)
-    (block-size-joined-requires t)
-    (block-size-loop-less t)
-    (block-size-loop-again t)
-    (block-size-returns t))
-    λ t. pair-size-lts.spec (in-pair t)
-    (pair-size-at t)
-    pair-size.Post
-    (pair-size-line-at-requires t)
-    (pair-size-line-size-requires t)
-    (pair-size-deeper-requires t)
-    (pair-size-add-block-size t)
-    (pair-size-block-size-requires t)
-    (pair-size-around-requires t)
-    (pair-size-returns t)
-    (pair-size-returns-2 t)
++block-size+pair-size-spec =
+    close
+    μ-block
+    μ-pair
+    (λ t. block.spec
+    (in-block t)
+    (block-at t)
+    block-reads.Post
+    Inv-loop
+    μ-loop
+    (block-holds t)
+    (block-begins t)
+    (block-pair t)
+    (block-joined t)
+    (block-less t)
+    (block-again t)
+    (block-returns t))
+    (λ t. pair.spec
+    (in-pair t)
+    (pair-here t)
+    pair-reads.Post
+    (pair-line t)
+    (pair-line-size t)
+    (pair-deeper t)
+    (pair-next t)
+    (pair-body t)
+    (pair-around t)
+    (pair-returns t)
+    (pair-returns-2 t))

@@ -1,29 +1,22 @@
+-- `put_before` meets its contract: it writes the piece before the body.
 use mathlib.Core.Path.{ap}
 use native.Mathlib.Omega.{arith}
 use borrow.Author.Needs.{needs}
 use Rattle.theory.specs.TurnedDown.{total}
 use Rattle.translation.proofs.writing.put_before.Statement.{statement}
 use Rattle.translation.proofs.writing.put_before.Tie as tie
-use Rattle.translation.proofs.writing.put_before.Reads as reads
-use Rattle.translation.proofs.writing.put_before.Lts as lts
-use Rattle.translation.proofs.pieces.before_body.Reads as before-body-reads
-use Rattle.translation.proofs.writing.put_piece.Reads as put-piece-reads
 
--- src/writing.rt:71:15
 before-body-requires : tie.Need-before-body-requires
 before-body-requires c κs = search needs
 
--- src/writing.rt:71:5
 put-piece-requires : tie.Need-put-piece-requires
 put-piece-requires c κs =
     let h : _ = c .before .before-body .ensures in
     omega (arith, ap total (h .table))
 
--- src/writing.rt:67:1
 same-length : tie.Need-same-length
 same-length c = search needs
 
--- src/writing.rt:67:1
 returns : tie.Need-returns
 returns c = rw (c .before .before .before .before .before-body .ensures .table) at (c .before .before .put-piece .ensures)
 

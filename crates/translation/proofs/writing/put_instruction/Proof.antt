@@ -1,30 +1,25 @@
+-- `put_instruction` meets its contract: two runs, one after the other, are the text of the entry.
 use Prim.Native.Nat.{ℕ}
 use native.Mathlib.Omega.{arith}
 use lib.ListN.{length-replicate}
 use borrow.Author.Needs.{needs}
-use Rattle.translation.proofs.Puts.{put-then, text-entry}
+use Rattle.program.proofs.Puts.{put-then}
+use Rattle.translation.proofs.Puts.{text-entry}
 use Rattle.translation.proofs.writing.put_instruction.Statement.{statement}
 use Rattle.translation.proofs.writing.put_instruction.Tie as tie
-use Rattle.translation.proofs.writing.put_instruction.Reads as reads
-use Rattle.translation.proofs.writing.put_instruction.Lts as lts
-use Rattle.translation.proofs.writing.put_run.Reads as put-run-reads
 
--- src/writing.rt:40:9
 put-run-requires : tie.Need-put-run-requires
 put-run-requires c κs = search needs
 
--- src/writing.rt:41:5
 put-run-requires-2 : tie.Need-put-run-requires-2
 put-run-requires-2 c κs =
     let one : ℕ = 49 in
     let h : _ = length-replicate (c .before .before .before .before .before .before .args .operand) one in
     omega (arith, h, c .before .before .before .put-run .kept .0)
 
--- src/writing.rt:36:1
 same-length : tie.Need-same-length
 same-length c = search needs
 
--- src/writing.rt:36:1
 returns : tie.Need-returns
 returns c =
     rw text-entry

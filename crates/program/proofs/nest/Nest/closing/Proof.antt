@@ -19,12 +19,18 @@ are-alike-requires : tie.Need-are-alike-requires
 are-alike-requires c κs = search needs
 
 returns : tie.Need-returns
-returns c = let a = c .before .before .before .before .before .before .args in
-    closing-passes (a .line) (a .t1) (a .kind) (a .index) (omega arith) (sym (c .before .before .before .are-alike .ensures) ∙ c .before .before .if2 .taken) (c .if3 .taken)
+returns c =
+    let c6 = c .before .before .before .before .before .before in
+    let a = c6 .args in
+    closing-passes (a .line) (a .t1) (a .kind) (a .index) (omega arith)
+    (sym (c .before .before .before .are-alike .ensures) ∙ c .before .before .if2 .taken) (c .if3 .taken)
 
 returns-2 : tie.Need-returns-2
-returns-2 c = let a = c .before .before .before .before .before .before .args in
-    closing-index (a .line) (a .t1) (a .kind) (a .index) (omega arith) (sym (c .before .before .before .are-alike .ensures) ∙ c .before .before .if2 .taken) (c .if3 .left)
+returns-2 c =
+    let c6 = c .before .before .before .before .before .before in
+    let a = c6 .args in
+    closing-index (a .line) (a .t1) (a .kind) (a .index) (omega arith) (sym (c .before .before .before .are-alike .ensures)
+    ∙ c .before .before .if2 .taken) (c .if3 .left)
 
 returns-3 : tie.Need-returns-3
 returns-3 c = let a = c .before .before .before .before .args in

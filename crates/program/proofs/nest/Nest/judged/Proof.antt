@@ -14,15 +14,20 @@ is-command-requires c κs = search needs
 
 returns : tie.Need-returns
 returns c = let a = c .before .before .args in
-    fault-4 (a .line) (open-pairs (a .self)) (a .kind) (a .index) (a .source) (sym (c .before .is-command .ensures) ∙ not-true _ (c .if1 .taken))
+    fault-4 (a .line) (open-pairs (a .self)) (a .kind) (a .index) (a .source)
+    (sym (c .before .is-command .ensures) ∙ not-true _ (c .if1 .taken))
 
 returns-2 : tie.Need-returns-2
 returns-2 c = let a = c .before .before .before .args in
-    fault-5 (a .line) (open-pairs (a .self)) (a .kind) (a .index) (a .source) (sym (c .before .before .is-command .ensures) ∙ not-false _ (c .before .if1 .left)) (omega arith)
+    fault-5 (a .line) (open-pairs (a .self)) (a .kind) (a .index) (a .source)
+    (sym (c .before .before .is-command .ensures) ∙ not-false _ (c .before .if1 .left)) (omega arith)
 
 returns-3 : tie.Need-returns-3
-returns-3 c = let a = c .before .before .before .before .args in
-    fault-5 (a .line) (open-pairs (a .self)) (a .kind) (a .index) (a .source) (sym (c .before .before .before .is-command .ensures) ∙ not-false _ (c .before .before .if1 .left)) (omega arith)
+returns-3 c =
+    let c4 = c .before .before .before .before in
+    let a = c4 .args in
+    fault-5 (a .line) (open-pairs (a .self)) (a .kind) (a .index) (a .source)
+    (sym (c .before .before .before .is-command .ensures) ∙ not-false _ (c .before .before .if1 .left)) (omega arith)
 
 opening-requires : tie.Need-opening-requires
 opening-requires c κs = search needs
@@ -37,28 +42,48 @@ closing-requires-2 : tie.Need-closing-requires-2
 closing-requires-2 c κs = search needs
 
 returns-4 : tie.Need-returns-4
-returns-4 c = let a = c .before .before .before .before .before .before .args in
-    let h = sym (c .before .before .before .before .before .is-command .ensures) ∙ not-false _ (c .before .before .before .before .if1 .left) in
+returns-4 c =
+    let c4 = c .before .before .before .before in
+    let c5 = c4 .before in
+    let c6 = c5 .before in
+    let a = c6 .args in
+    let h = sym (c5 .is-command .ensures) ∙ not-false _ (c4 .if1 .left) in
     c .opening .ensures
-    ∙ of-kind (a .line) (open-pairs (a .self)) (a .kind) (a .index) (a .source) h (opens (kind-of (a .kind)) (a .index)) (kind-4 (a .kind) (a .index) (a .source) (c .before .match .keys1) h) (omega arith)
+    ∙ of-kind (a .line) (open-pairs (a .self)) (a .kind) (a .index) (a .source) h (opens (kind-of (a .kind)) (a .index))
+    (kind-4 (a .kind) (a .index) (a .source) (c .before .match .keys1) h) (omega arith)
 
 returns-5 : tie.Need-returns-5
-returns-5 c = let a = c .before .before .before .before .before .before .args in
-    let h = sym (c .before .before .before .before .before .is-command .ensures) ∙ not-false _ (c .before .before .before .before .if1 .left) in
+returns-5 c =
+    let c4 = c .before .before .before .before in
+    let c5 = c4 .before in
+    let c6 = c5 .before in
+    let a = c6 .args in
+    let h = sym (c5 .is-command .ensures) ∙ not-false _ (c4 .if1 .left) in
     c .closing .ensures
-    ∙ of-kind (a .line) (open-pairs (a .self)) (a .kind) (a .index) (a .source) h (closes loop (a .index)) (kind-5 (a .kind) (a .index) (a .source) (c .before .match .keys2) h) (omega arith)
+    ∙ of-kind (a .line) (open-pairs (a .self)) (a .kind) (a .index) (a .source) h (closes loop (a .index))
+    (kind-5 (a .kind) (a .index) (a .source) (c .before .match .keys2) h) (omega arith)
 
 returns-6 : tie.Need-returns-6
-returns-6 c = let a = c .before .before .before .before .before .before .args in
-    let h = sym (c .before .before .before .before .before .is-command .ensures) ∙ not-false _ (c .before .before .before .before .if1 .left) in
+returns-6 c =
+    let c4 = c .before .before .before .before in
+    let c5 = c4 .before in
+    let c6 = c5 .before in
+    let a = c6 .args in
+    let h = sym (c5 .is-command .ensures) ∙ not-false _ (c4 .if1 .left) in
     c .opening2 .ensures
-    ∙ of-kind (a .line) (open-pairs (a .self)) (a .kind) (a .index) (a .source) h (opens (kind-of (a .kind)) (a .index)) (kind-6 (a .kind) (a .index) (a .source) (c .before .match .keys3) h) (omega arith)
+    ∙ of-kind (a .line) (open-pairs (a .self)) (a .kind) (a .index) (a .source) h (opens (kind-of (a .kind)) (a .index))
+    (kind-6 (a .kind) (a .index) (a .source) (c .before .match .keys3) h) (omega arith)
 
 returns-7 : tie.Need-returns-7
-returns-7 c = let a = c .before .before .before .before .before .before .args in
-    let h = sym (c .before .before .before .before .before .is-command .ensures) ∙ not-false _ (c .before .before .before .before .if1 .left) in
+returns-7 c =
+    let c4 = c .before .before .before .before in
+    let c5 = c4 .before in
+    let c6 = c5 .before in
+    let a = c6 .args in
+    let h = sym (c5 .is-command .ensures) ∙ not-false _ (c4 .if1 .left) in
     c .closing2 .ensures
-    ∙ of-kind (a .line) (open-pairs (a .self)) (a .kind) (a .index) (a .source) h (closes while (a .index)) (kind-7 (a .kind) (a .index) (a .source) (c .before .match .keys4) h) (omega arith)
+    ∙ of-kind (a .line) (open-pairs (a .self)) (a .kind) (a .index) (a .source) h (closes while (a .index))
+    (kind-7 (a .kind) (a .index) (a .source) (c .before .match .keys4) h) (omega arith)
 
 returns-8 : tie.Need-returns-8
 returns-8 c = let a = c .before .before .before .before .before .args in

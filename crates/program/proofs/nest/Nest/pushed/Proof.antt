@@ -15,7 +15,9 @@ add-self : tie.Need-add-self
 add-self c = search needs
 
 returns : tie.Need-returns
-returns c = follows-push (c .args .line) (c .args .t1) (c .args .kind) (c .args .index) (simp length-map at (c .good .0 .1 .1 .1 .0 .1 .0 .1)) (c .pre)
+returns c =
+    follows-push (c .args .line) (c .args .t1) (c .args .kind) (c .args .index) (simp length-map at (c .good .0 .1 .1 .1 .0 .1 .0 .1))
+    (c .pre)
 
 pub pushed-spec : {M : Type 1} → statement M
 pushed-spec = tie.close (tie.spec mul-t8 element-set-from-self add-self returns)

@@ -1,0 +1,25 @@
+-- `mudzkvopi_write_program` meets its contract, since `program::write` meets its own.
+use borrow.Author.Needs.{needs}
+use mathlib.Core.Path.{ap, _∙_}
+use Rattle.host.specs.Answered.{program-written}
+use Rattle.host.proofs.Packs.{packs-program-written}
+use Rattle.host.proofs.mudzkvopi_write_program.Statement.{statement}
+use Rattle.host.proofs.mudzkvopi_write_program.Tie as tie
+
+write-requires : tie.Need-write-requires
+write-requires c κs = search needs
+
+program-written-requires : tie.Need-program-written-requires
+program-written-requires c κs = search needs
+
+same-length : tie.Need-same-length
+same-length c = search needs
+
+returns : tie.Need-returns
+returns c =
+    let write = c .before .before .before .write .ensures in
+    record { result = c .program-written .ensures ∙ ap program-written (write .0) ∙ packs-program-written _; text-after = write .1 }
+
+pub mudzkvopi-write-program-spec : {M : Type 1} → statement M
+mudzkvopi-write-program-spec =
+    tie.close (tie.spec write-requires program-written-requires same-length returns)

@@ -1,0 +1,48 @@
+-- `run_row` meets its contract: both runs are the definitions'.
+use mathlib.Core.Path.{subst}
+use borrow.Author.Needs.{needs}
+use Rattle.theory.specs.TurnedDown.{after, read-list}
+use Rattle.source.specs.Answers.{run-from, HandsBack}
+use Rattle.source.specs.declared.State.{State}
+use Rattle.report.proofs.Called.{row-ran}
+use Rattle.report.proofs.rows.run_row.Statement.{statement}
+use Rattle.report.proofs.rows.run_row.Tie as tie
+
+fresh-requires : tie.Need-fresh-requires
+fresh-requires c κs = search needs
+
+run-list-requires : tie.Need-run-list-requires
+run-list-requires c κs = search needs
+
+of-source-requires : tie.Need-of-source-requires
+of-source-requires c κs = search needs
+
+run-word-requires : tie.Need-run-word-requires
+run-word-requires c κs = search needs
+
+array-read-t14 : tie.Need-array-read-t14
+array-read-t14 c = search needs
+
+returns : tie.Need-returns
+returns c =
+    let run = c .before .before .before .before in
+    let fresh = run .before in
+    let start = fresh .before .before .before in
+    let list = start .args .list .now in
+    let values = start .args .values in
+    let r = run .run-list .result in
+    let runs : State → Type 0 = λ s. HandsBack s (after (read-list list) (run-from s 100000)) r in
+    let back = subst runs (fresh .fresh .ensures .state) (run .run-list .ensures) in
+    let ran = row-ran list (start .args .word .now) (start .args .variables) values (start .pre .0) (start .pre .1) r back in
+    ran (c .before .of-source .result) (c .run-word .result) (c .before .of-source .ensures) (c .run-word .ensures)
+
+pub run-row-spec : {M : Type 1} → statement M
+run-row-spec =
+    tie.close
+    (tie.spec
+    fresh-requires
+    run-list-requires
+    of-source-requires
+    run-word-requires
+    array-read-t14
+    returns)
