@@ -1,0 +1,177 @@
+/*
+ * A host of the library in C: translates a program, prints its word as the label has it, runs the program and the word, and prints the counts of both.
+ * Then the same from a list, a budget cut in two, a run that is full, and refusals. What it writes is held to host-expected.txt.
+ */
+#include <inttypes.h>
+#include <stdio.h>
+#include <string.h>
+
+#include "mudzkvopi.h"
+
+#define REGISTERS 64
+#define CAPACITY 1024
+
+static const char adder[] = "loop X1\nX0 <- X0 + 1\nendloop X1\n";
+
+static uint8_t word[MUDZKVOPI_MAX_WORD];
+static uint8_t store[REGISTERS * CAPACITY];
+static uint16_t lengths[REGISTERS];
+
+static const char *name(uint64_t result)
+{
+    switch (MUDZKVOPI_WHAT(result)) {
+    case MUDZKVOPI_DONE:
+        return "done";
+    case MUDZKVOPI_HALTED:
+        return "halted";
+    case MUDZKVOPI_STRAYED:
+        return "strayed";
+    case MUDZKVOPI_SPENT:
+        return "spent";
+    case MUDZKVOPI_FULL:
+        return "full";
+    default:
+        return "refused";
+    }
+}
+
+static void print_result(const char *call, uint64_t result)
+{
+    if (MUDZKVOPI_WHAT(result) == MUDZKVOPI_REFUSED)
+        printf("%s: refused %" PRIu32 " %" PRIu32 "\n", call, MUDZKVOPI_RULE(result), MUDZKVOPI_PLACE(result));
+    else if (MUDZKVOPI_WHAT(result) == MUDZKVOPI_DONE)
+        printf("%s: done %" PRIu32 " %" PRIu32 "\n", call, MUDZKVOPI_HIGH(result), MUDZKVOPI_LOW(result));
+    else
+        printf("%s: %s after %" PRIu32 " steps\n", call, name(result), MUDZKVOPI_STEPS(result));
+}
+
+static uint64_t translate(const char *text)
+{
+    return mudzkvopi_translate((const uint8_t *)text, strlen(text), word, sizeof word);
+}
+
+/* A fresh state with one value. */
+static void fresh_state(uint32_t *state, uint32_t capacity, uint32_t variable, uint32_t value)
+{
+    memset(state, 0, MUDZKVOPI_STATE_NUMBERS * sizeof *state);
+    state[MUDZKVOPI_STATE_CAPACITY] = capacity;
+    state[MUDZKVOPI_STATE_LINE] = 1;
+    state[MUDZKVOPI_STATE_VALUES + variable] = value;
+}
+
+/* A machine whose registers are empty, but for the one of a variable. */
+static void fresh_machine(uint32_t capacity, uint32_t variable, uint32_t value)
+{
+    memset(store, 0, sizeof store);
+    memset(lengths, 0, sizeof lengths);
+    memset(store + variable * capacity, '1', value);
+    lengths[variable] = (uint16_t)value;
+}
+
+static void run_both(const char *text, uint32_t capacity, uint32_t variable, uint32_t value)
+{
+    uint64_t translated = translate(text);
+    uint32_t state[MUDZKVOPI_STATE_NUMBERS];
+    int32_t place = 1;
+    uint32_t steps = 0;
+    uint64_t result;
+
+    fresh_state(state, capacity, variable, value);
+    result = mudzkvopi_run_source((const uint8_t *)text, strlen(text), state, MUDZKVOPI_STATE_NUMBERS, 100000);
+    print_result("source", result);
+    printf("X0 is %" PRIu32 "\n", state[MUDZKVOPI_STATE_VALUES]);
+
+    fresh_machine(capacity, variable, value);
+    result = mudzkvopi_run_word(
+        REGISTERS, capacity, store, REGISTERS * (size_t)capacity, lengths, REGISTERS, &place, &steps, word, MUDZKVOPI_LOW(translated), 1000000);
+    print_result("word", result);
+    printf("register 1 has %u symbols, place %" PRId32 ", %" PRIu32 " steps\n", (unsigned)lengths[0], place, steps);
+}
+
+/* The label of the adder, and its two runs of document 01. */
+static void label(void)
+{
+    uint64_t translated = translate(adder);
+
+    print_result("translate", translated);
+    printf("%.*s\n", (int)MUDZKVOPI_LOW(translated), (const char *)word);
+    run_both(adder, CAPACITY, 1, 3);
+    run_both(adder, CAPACITY, 1, 0);
+}
+
+/* The same word from a list, and the text from the list. */
+static void from_list(void)
+{
+    uint8_t list[MUDZKVOPI_MAX_LIST];
+    uint8_t text[MUDZKVOPI_MAX_TEXT];
+    uint64_t read = mudzkvopi_read_program((const uint8_t *)adder, strlen(adder), list, sizeof list);
+    size_t numbers = 3 * (size_t)MUDZKVOPI_LOW(read);
+    uint64_t written = mudzkvopi_write_program(list, numbers, text, sizeof text);
+    uint32_t state[MUDZKVOPI_STATE_NUMBERS];
+
+    print_result("read_program", read);
+    print_result("write_program", written);
+    printf("%s text\n", memcmp(text, adder, strlen(adder)) == 0 ? "the same" : "another");
+    print_result("translate_list", mudzkvopi_translate_list(list, numbers, word, sizeof word));
+    fresh_state(state, CAPACITY, 1, 3);
+    print_result("run_source_list", mudzkvopi_run_source_list(list, numbers, state, MUDZKVOPI_STATE_NUMBERS, 100000));
+}
+
+/* A word as instructions, and back. */
+static void instructions(void)
+{
+    static uint8_t kinds[MUDZKVOPI_MAX_INSTRUCTIONS];
+    static uint32_t operands[MUDZKVOPI_MAX_INSTRUCTIONS];
+    uint8_t back[sizeof "11#####1#"] = { 0 };
+    uint64_t read = mudzkvopi_read_word((const uint8_t *)"11#####1#", 9, kinds, MUDZKVOPI_MAX_INSTRUCTIONS, operands, MUDZKVOPI_MAX_INSTRUCTIONS);
+
+    print_result("read_word", read);
+    printf("kind %u operand %" PRIu32 ", kind %u operand %" PRIu32 "\n", (unsigned)kinds[0], operands[0], (unsigned)kinds[1], operands[1]);
+    print_result("write_word", mudzkvopi_write_word(kinds, MUDZKVOPI_LOW(read), operands, MUDZKVOPI_LOW(read), back, 9));
+    printf("%s\n", (const char *)back);
+}
+
+/* A budget cut in two: the state goes on from where the first call left it. */
+static void cut_in_two(void)
+{
+    uint32_t state[MUDZKVOPI_STATE_NUMBERS];
+
+    fresh_state(state, CAPACITY, 1, 3);
+    print_result("first 4", mudzkvopi_run_source((const uint8_t *)adder, strlen(adder), state, MUDZKVOPI_STATE_NUMBERS, 4));
+    print_result("the rest", mudzkvopi_run_source((const uint8_t *)adder, strlen(adder), state, MUDZKVOPI_STATE_NUMBERS, 100000));
+    printf("%" PRIu32 " steps, X0 is %" PRIu32 "\n", state[MUDZKVOPI_STATE_STEPS], state[MUDZKVOPI_STATE_VALUES]);
+}
+
+static void refusals(void)
+{
+    uint32_t state[MUDZKVOPI_STATE_NUMBERS];
+    int32_t place = 1;
+    uint32_t steps = 0;
+
+    print_result("index 32", translate("X0 <- 0\nX32 <- 0\n"));
+    print_result("left open", translate("loop X1\n"));
+    print_result("no room", mudzkvopi_translate((const uint8_t *)adder, strlen(adder), word, 82));
+    fresh_state(state, CAPACITY, 2, 1);
+    print_result("a value too many", mudzkvopi_run_source((const uint8_t *)adder, strlen(adder), state, MUDZKVOPI_STATE_NUMBERS, 1));
+    print_result("50 numbers", mudzkvopi_run_source((const uint8_t *)adder, strlen(adder), state, 50, 1));
+    fresh_machine(CAPACITY, 0, 1);
+    print_result("short store", mudzkvopi_run_word(2, CAPACITY, store, CAPACITY, lengths, 2, &place, &steps, (const uint8_t *)"1#", 2, 1));
+    print_result(
+        "no register", mudzkvopi_run_word(2, CAPACITY, store, 2 * CAPACITY, lengths, 2, &place, &steps, (const uint8_t *)"1#111#", 6, 1));
+    printf("place %" PRId32 ", %" PRIu32 " steps, register 1 has %u symbols\n", place, steps, (unsigned)lengths[0]);
+}
+
+int main(void)
+{
+    if (mudzkvopi_version() != MUDZKVOPI_VERSION) {
+        printf("the library has version %" PRIu32 ", and the header %d\n", mudzkvopi_version(), MUDZKVOPI_VERSION);
+        return 1;
+    }
+    label();
+    from_list();
+    instructions();
+    cut_in_two();
+    run_both("X0 <- X0 + 1\n", 2, 0, 2);
+    refusals();
+    return 0;
+}
