@@ -63,13 +63,17 @@ unfolding numbers-by state-by
 numbers-of-by l e (done o) = refl
 numbers-of-by l e (refused r) = numbers-again l e
 
+-- Rule 9
+abbrev turned-down : List Command → Answer (Outcome S.State)
+turned-down p = refused (record { number = 9; place = 0 })
+
 -- From 51 numbers, a run from the state that they are
 module _ (A : Answer (List Command)) (l : List ℕ) (budget : ℕ) (size : length l ≡ 51) (r : Run) where
   same-answer : after A (run-from (state-of l) budget) ≡ after A (run-numbers l budget)
   unfolding run-numbers
   same-answer =
       after-same A _ _
-      λ p. sym (ap (λ (t : Bool). cond t (run-from (state-of l) budget p) (refused (record { number = 9; place = 0 }))) (eq-eqb (length l) 51 size))
+      λ p. sym (ap (λ (t : Bool). cond t (run-from (state-of l) budget p) (turned-down p)) (eq-eqb (length l) 51 size))
 
   pub runs-state : (s : State) (n : ℕ) (l′ : List ℕ) → s ≡ state-of l → HandsBack s (after A (run-from s budget)) r
       → n ≡ source-ended (r .ended) → l′ ≡ numbers-of (r .state) → RunsSource A l budget n l′
@@ -86,9 +90,6 @@ module _ (A : Answer (List Command)) (l : List ℕ) (budget : ℕ) (size : lengt
       }
 
 -- From another number of numbers: rule 9, as for a state of no capacity
-abbrev turned-down : List Command → Answer (Outcome S.State)
-turned-down p = refused (record { number = 9; place = 0 })
-
 no-room : (v : List ℕ) (budget : ℕ) (p : List Command) → run-from (fresh-state 0 v) budget p ≡ turned-down p
 unfolding run-from rule-9 is-source
 no-room v budget p = refl

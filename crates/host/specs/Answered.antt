@@ -1,4 +1,4 @@
--- The number of what each crate hands back as a value of its own type; proofs/Packs says that it is that of the answer for which the value stands.
+-- The number of what each crate hands back as a value of its own type. proofs/Packs: it is that of the answer for which the value stands.
 use Prim.Native.Nat.{ℕ}
 use Rattle.theory.specs.declared.Refusal.{Refusal}
 use Rattle.program.specs.declared.Checked.{Checked}

@@ -35,8 +35,8 @@ pub record Translates (A : Answer (List Command)) (word : Bytes) (r : ℕ) (word
   pub result : r ≡ packed sizes (translate-into word A)
   pub word-after : word′ ≡ lent-after word (mapped word-text (translate-into word A))
 
--- A program handed in as A, run from a state of 51 numbers: how the run ended, with its steps. `numbers-after` fixes every number of the state, and
--- `stands` says that they are the definitions' state and no part of that: from there a later call goes on
+-- A program handed in as A, run from a state of 51 numbers: how the run ended, with its steps. `numbers-after` fixes every number of the
+-- state, and `stands` says that they are the definitions' state and no part of that: from there a later call goes on
 pub record RunsSource (A : Answer (List Command)) (numbers : List ℕ) (budget r : ℕ) (numbers′ : List ℕ) : Type 0 where
   pub result : r ≡ packed ending (after A (run-numbers numbers budget))
   pub numbers-after : numbers′ ≡ numbers-by numbers (after A (run-numbers numbers budget))
@@ -54,7 +54,8 @@ unfoldable pub run-lent : Memory → Position → ℕ → Bytes → Answer (Outc
 run-lent m at budget word = mapped (λ t. run-word (instructions t) m (position at) budget) (checked m (read-word-for (m .registers) word))
 
 -- How the run ended, with its steps; and the machine then
-pub record RunsWord (m : Memory) (at : Position) (word : Bytes) (budget r : ℕ) (store′ : Bytes) (lengths′ : List ℕ) (at′ : Position) : Type 0 where
+pub record RunsWord (m : Memory) (at : Position) (word : Bytes) (budget r : ℕ)
+    (store′ : Bytes) (lengths′ : List ℕ) (at′ : Position) : Type 0 where
   pub result : r ≡ packed ending (run-lent m at budget word)
   pub store-after : store′ ≡ word-called m at budget word .store
   pub lengths-after : lengths′ ≡ word-called m at budget word .lengths

@@ -1,5 +1,5 @@
-// The library for the tablets' host: its entries on numbers and slices, to be called from C by include/mudzkvopi.h. Each entry hands its arguments on to
-// the crate that does the work, and packs what comes back into one number.
+// The library for the tablets' host: entries on numbers and slices, to be called from C by include/mudzkvopi.h. Each entry hands its arguments
+// on to the crate that does the work, and packs what comes back into one number.
 mod packing;
 mod states;
 
@@ -8,7 +8,8 @@ use machine::Position;
 ghost use mathlib.Core.Path.{_≡_};
 ghost use Rattle.theory.specs.TurnedDown.{read-text, read-list};
 ghost use Rattle.word.specs.Answers.{zipped};
-ghost use Rattle.host.specs.Entries.{ReadsProgram, WritesProgram, Translates, RunsSource, ReadsWord, WritesWord, RunsWord, lent, stands-at};
+ghost use Rattle.host.specs.Entries.{ReadsProgram, WritesProgram, Translates, RunsSource};
+ghost use Rattle.host.specs.Entries.{ReadsWord, WritesWord, RunsWord, lent, stands-at};
 
 // The version of these entries.
 #[no_mangle]
@@ -87,7 +88,8 @@ pub extern "C" fn mudzkvopi_run_source_list(list: &[u8], state: &mut [u32], budg
 // A word read into kinds and operands: rules 11 to 14, then 19.
 #[no_mangle]
 pub extern "C" fn mudzkvopi_read_word(word: &[u8], kinds: &mut [u8], operands: &mut [u32]) -> u64
-    ensures { λ r. ⌜ ReadsWord (now (word .entry)) (now (kinds .entry)) (now (operands .entry)) r (now (kinds .exit)) (now (operands .exit)) ⌝ }
+    ensures { λ r. ⌜ ReadsWord (now (word .entry)) (now (kinds .entry)) (now (operands .entry))
+        r (now (kinds .exit)) (now (operands .exit)) ⌝ }
 {
     packing::word_read(word::read(word, &mut *kinds, &mut *operands))
 }

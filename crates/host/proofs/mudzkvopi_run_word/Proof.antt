@@ -35,10 +35,11 @@ returns c =
     let run : handed (at-run .run .result) (at-run .run .last .1 .0) (at-run .run .last .1 .1 .0)
     ≡ word-called m at (args .budget) (args .word .now)
     = at-run .run .ensures ∙ ap (λ (z : ℤ). word-called m (stands-at z (args .steps .now)) (args .budget) (args .word .now)) from in
+    let ended : word-ended (at-run .run .result .ended) ≡ _ = ap (λ (x : Called). word-ended (x .run .ended)) run in
     let back : toZ w32 (ofZ w32 (at-run .run .result .position .place)) ≡ at-run .run .result .position .place = search needs in
     record {
       result
-          = c .word-ended .ensures ∙ ap (λ (x : Called). word-ended (x .run .ended)) run ∙ packs-word m at (args .budget) (args .word .now);
+          = c .word-ended .ensures ∙ ended ∙ packs-word m at (args .budget) (args .word .now);
       store-after = ap (λ (x : Called). x .store) run;
       lengths-after = ap (λ (x : Called). x .lengths) run;
       position-after
