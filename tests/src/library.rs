@@ -26,7 +26,6 @@ extern "C" {
         word_len: usize,
         budget: u32,
     ) -> u64;
-    fn mudzkvopi_report(text: *const u8, text_len: usize, sheet: *const u8, sheet_len: usize, out: *mut u8, out_len: usize) -> u64;
 }
 
 /// A result unpacked: two counts, or how a run ended and its steps, or a refusal.
@@ -125,8 +124,4 @@ pub fn run_word(machine: &mut Machine, word: &[u8], budget: u32) -> Answer {
             budget,
         )
     })
-}
-
-pub fn report(text: &[u8], sheet: &[u8], out: &mut [u8]) -> Answer {
-    unpack(unsafe { mudzkvopi_report(text.as_ptr(), text.len(), sheet.as_ptr(), sheet.len(), out.as_mut_ptr(), out.len()) })
 }

@@ -58,8 +58,7 @@ fn refused(number: u32, place: usize) -> Checked
 fn named(variables: usize, index: u8, source: u8) -> usize
     ensures { λ r. ⌜ r ≡ max variables (suc (max index source)) ⌝ }
 {
-    let high = if index < source { source } else { index };
-    let above = high as usize + 1;
+    let above = nest::higher(index, source) as usize + 1;
     if variables < above { above } else { variables }
 }
 

@@ -4,7 +4,7 @@ use crate::Program;
 use theory::Refusal;
 ghost use mathlib.Core.Path.{_≡_};
 ghost use mathlib.Core.Option.{none, some};
-ghost use Prim.Native.Nat.{suc, _≤_, _<_};
+ghost use Prim.Native.Nat.{suc, max, _≤_, _<_};
 ghost use lib.Dec.{ltb};
 ghost use lib.ListN.{length};
 ghost use Rattle.theory.specs.Limits.{most-open};
@@ -29,6 +29,23 @@ pub struct Nest {
 pub enum Judged {
     Passes,
     Fault(Refusal),
+}
+
+// The verdict where a rule applies to a line.
+fn fault(number: u32, line: usize) -> Judged
+    ensures { λ r. ⌜ r ≡ Judged.Fault (record { number = number; place = line }) ⌝ }
+{
+    Judged::Fault(Refusal {
+        number,
+        place: line,
+    })
+}
+
+// The higher of two indices.
+pub fn higher(index: u8, source: u8) -> u8
+    ensures { λ r. ⌜ r ≡ max index source ⌝ }
+{
+    if index < source { source } else { index }
 }
 
 // Whether three numbers are a command, whatever the index.
@@ -105,22 +122,10 @@ impl Nest {
         ensures { λ r. ⌜ r ≡ judgement (line-fault line (open-pairs self) (command-of kind index source)) ⌝ }
     {
         if !is_command(kind, source) {
-            return Judged::Fault(Refusal {
-                number: 4,
-                place: line,
-            });
+            return fault(4, line);
         }
-        if Program::INDEX < index {
-            return Judged::Fault(Refusal {
-                number: 5,
-                place: line,
-            });
-        }
-        if Program::INDEX < source {
-            return Judged::Fault(Refusal {
-                number: 5,
-                place: line,
-            });
+        if Program::INDEX < higher(index, source) {
+            return fault(5, line);
         }
         match kind {
             4 => self.opening(line),

@@ -7,11 +7,10 @@ use std::time::{Duration, Instant};
 use std::{env, fs};
 use twin::library;
 use twin::machine::Machine;
-use twin::program::{read, variables, Command, Kind};
+use twin::program::{self, read, variables, Command, Kind};
 use twin::source::{run, State};
 use twin::translation::translate;
 use twin::word::{self, spell, Instruction};
-use twin::{program, tool};
 
 /// A piece of work, and the two times that it took.
 struct Row {
@@ -125,19 +124,6 @@ fn moving(length: usize, name: &'static str) -> Row {
     )
 }
 
-fn reporting(text: &'static [u8], sheet: &'static [u8], name: &'static str) -> Row {
-    let mut out = vec![0; 150_000];
-    row(
-        name,
-        &mut || {
-            black_box(library::report(text, sheet, &mut out));
-        },
-        &mut || {
-            black_box(tool::report(text, sheet));
-        },
-    )
-}
-
 /// Bars of the ratios, with a line at 1.
 fn picture(rows: &[Row]) -> String {
     let height = 40 + 26 * rows.len();
@@ -170,7 +156,6 @@ fn main() {
         moving(1000, "word run, 1,000 symbols"),
         moving(60, "word run, 60 symbols"),
         moving(6, "word run, 6 symbols"),
-        reporting(MULTIPLY, b"X1 X2\n0 7\n3 4\n32 32\n", "report of 3 rows"),
     ];
     println!("{:<28} {:>12} {:>12} {:>7}", "", "library", "twin", "ratio");
     for row in &rows {

@@ -1,7 +1,9 @@
-//! The library against the twin, on cases by chance: `differential [seed] [count]`. The same seed gives the same cases.
+//! The library against the twin, on cases by chance: `differential [seed] [count]`. The same seed gives the same cases. Where RUN_TOOL names the run tool,
+//! its reports are compared too.
 
-use std::env;
-use std::process::exit;
+use std::path::Path;
+use std::process::{exit, Command};
+use std::{env, fs};
 use twin::library::{self, Answer};
 use twin::program::{list, read, read_list, variables, write};
 use twin::random::Random;
@@ -129,11 +131,12 @@ fn word_run(text: &[u8], from: &twin::machine::Machine, budget: u32) -> Pair {
     pair((answer, twin), (found, machine))
 }
 
-fn whole_report(text: &[u8], sheet: &[u8], lent: &[u8]) -> Pair {
-    let (result, after) = lend(Ok(tool::report(text, sheet).into_bytes()), lent);
-    let mut out = lent.to_vec();
-    let answer = library::report(text, sheet, &mut out);
-    pair((expected(result, 0), after), (answer, out))
+/// What the run tool prints for a program and a sheet, in a folder of its own.
+fn run_tool(tool: &Path, folder: &Path, text: &[u8], sheet: &[u8]) -> String {
+    fs::write(folder.join("program.txt"), text).expect("a file in the folder");
+    fs::write(folder.join("sheet.txt"), sheet).expect("a file in the folder");
+    let output = Command::new(tool).current_dir(folder).output().expect("the run tool runs");
+    String::from_utf8_lossy(&output.stdout).into_owned()
 }
 
 /// The parts of `bytes` that are left when one piece is cut out, largest pieces first.
@@ -212,19 +215,15 @@ fn try_all(case: u64, random: &mut Random) {
     let length = if word::check_table(&table).is_ok() { spell(&table).len() } else { 9 };
     let lent = output(random, length, FILL);
     hold("write a word", case, Vec::new(), &|_| write_word(&table, &lent));
-
-    if random.once_in(4) {
-        let small = write(&random_small(random));
-        let text = if random.once_in(4) { text } else { small };
-        let sheet = random.sheet(read(&text).map_or(2, |c| variables(&c)));
-        let lent = vec![FILL; random.pick(&[0, 13, 47, 68, 400])];
-        hold("report", case, sheet, &|s| whole_report(&text, s, &lent));
-    }
 }
 
-fn random_small(random: &mut Random) -> Vec<twin::program::Command> {
+/// The run tool on a program and a sheet by chance.
+fn try_tool(case: u64, random: &mut Random, tool_path: &Path, folder: &Path) {
     let lines = random.below(9);
-    random.program(lines, 3)
+    let small = write(&random.program(lines, 3));
+    let text = if random.once_in(4) { random.text() } else { small };
+    let sheet = random.sheet(read(&text).map_or(2, |c| variables(&c)));
+    hold("the run tool", case, sheet, &|s| (tool::report(&text, s), run_tool(tool_path, folder, &text, s)));
 }
 
 fn main() {
@@ -237,6 +236,16 @@ fn main() {
             println!("differential: {case} of {count}");
         }
         try_all(case, &mut random);
+    }
+    let tool_cases = (count / 10).min(500);
+    if let Some(tool_path) = env::var_os("RUN_TOOL") {
+        let folder = env::temp_dir().join(format!("run-tool-{}", std::process::id()));
+        fs::create_dir_all(&folder).expect("a folder for the run tool");
+        for case in 0..tool_cases {
+            try_tool(case, &mut random, Path::new(&tool_path), &folder);
+        }
+        fs::remove_dir_all(&folder).expect("the folder is removed");
+        println!("differential: {tool_cases} reports of the run tool agree");
     }
     println!("differential: {count} cases of each kind, seed {seed}: the library and the twin agree");
 }
