@@ -1,0 +1,83 @@
+/*
+ * The stack that each entry takes: it is called on a thread whose stack was painted, and the bytes that are no longer paint are counted. The inputs are the
+ * deepest and longest that are accepted: 16 loops around 480 copies, and its word of 311,044 symbols. Less the same count for an entry that does nothing.
+ */
+#define _GNU_SOURCE
+#include <pthread.h>
+#include <stdio.h>
+#include <stdlib.h>
+#include <string.h>
+
+#include "mudzkvopi.h"
+
+#define STACK (1 << 20)
+#define PAINT 0xa5
+
+static char text[MUDZKVOPI_MAX_TEXT];
+static size_t text_len;
+static uint8_t word[MUDZKVOPI_MAX_WORD], back[MUDZKVOPI_MAX_WORD];
+static size_t word_len, count;
+static uint8_t list[MUDZKVOPI_MAX_LIST], kinds[MUDZKVOPI_MAX_INSTRUCTIONS], bytes[MUDZKVOPI_MAX_TEXT];
+static uint32_t operands[MUDZKVOPI_MAX_INSTRUCTIONS], state[MUDZKVOPI_STATE_NUMBERS];
+static uint8_t store[64 * 1024];
+static uint16_t lengths[64];
+static int32_t place = 1;
+static uint32_t steps;
+
+static void version(void) { mudzkvopi_version(); }
+static void read_program(void) { mudzkvopi_read_program((uint8_t *)text, text_len, list, sizeof list); }
+static void write_program(void) { mudzkvopi_write_program(list, sizeof list, bytes, sizeof bytes); }
+static void translate(void) { word_len = MUDZKVOPI_LOW(mudzkvopi_translate((uint8_t *)text, text_len, word, sizeof word)); }
+static void translate_list(void) { mudzkvopi_translate_list(list, sizeof list, word, sizeof word); }
+static void run_source(void) { mudzkvopi_run_source((uint8_t *)text, text_len, state, MUDZKVOPI_STATE_NUMBERS, 1000); }
+static void run_source_list(void) { mudzkvopi_run_source_list(list, sizeof list, state, MUDZKVOPI_STATE_NUMBERS, 1000); }
+static void read_word(void) { count = MUDZKVOPI_LOW(mudzkvopi_read_word(word, word_len, kinds, sizeof kinds, operands, MUDZKVOPI_MAX_INSTRUCTIONS)); }
+static void write_word(void) { mudzkvopi_write_word(kinds, count, operands, count, back, sizeof back); }
+static void run_word(void) { mudzkvopi_run_word(64, 1024, store, sizeof store, lengths, 64, &place, &steps, word, word_len, 1000); }
+
+static void *call(void *entry)
+{
+    ((void (*)(void))entry)();
+    return NULL;
+}
+
+static size_t stack_of(void (*entry)(void))
+{
+    static _Alignas(4096) unsigned char stack[STACK];
+    pthread_attr_t attributes;
+    pthread_t thread;
+    size_t unused = 0;
+
+    memset(stack, PAINT, sizeof stack);
+    pthread_attr_init(&attributes);
+    pthread_attr_setstack(&attributes, stack, sizeof stack);
+    if (pthread_create(&thread, &attributes, call, (void *)entry) != 0)
+        exit(1);
+    pthread_join(thread, NULL);
+    while (unused < sizeof stack && stack[unused] == PAINT)
+        unused++;
+    return sizeof stack - unused;
+}
+
+int main(void)
+{
+    struct { const char *name; void (*entry)(void); } entries[] = {
+        { "read_program", read_program },       { "write_program", write_program },     { "translate", translate },
+        { "translate_list", translate_list },   { "run_source", run_source },           { "run_source_list", run_source_list },
+        { "read_word", read_word },             { "write_word", write_word },           { "run_word", run_word },
+    };
+    size_t base = stack_of(version);
+
+    for (int i = 0; i < 16; i++)
+        text_len += (size_t)sprintf(text + text_len, "loop X31\n");
+    for (int i = 0; i < 480; i++)
+        text_len += (size_t)sprintf(text + text_len, "X31 <- X30\n");
+    for (int i = 0; i < 16; i++)
+        text_len += (size_t)sprintf(text + text_len, "endloop X31\n");
+    state[MUDZKVOPI_STATE_CAPACITY] = 1024;
+    state[MUDZKVOPI_STATE_LINE] = 1;
+    state[MUDZKVOPI_STATE_VALUES + 31] = 5;
+    for (size_t i = 0; i < sizeof entries / sizeof *entries; i++)
+        printf("%-16s %6zu bytes\n", entries[i].name, stack_of(entries[i].entry) - base);
+    return 0;
+}
