@@ -28,6 +28,7 @@ pub struct Digits {
     pub index: u8,
 }
 
+// What a line that is none of the spellings is read as.
 const NO_COMMAND: Numbers = Numbers {
     kind: 0,
     index: 0,
@@ -47,6 +48,7 @@ fn shifted(index: u8, digit: u8) -> u8
     }
 }
 
+// The digits at a place of a line: as far as they go, and the number that they spell.
 fn digits_at(s: &[u8], at: usize) -> Digits
     requires { ⌜ at ≤ length (now s) ⌝ }
     ensures end { λ r. ⌜ (r .end ≡ at + length (digits (drop at (now (s .entry))) .value)) × (r .end ≤ length (now (s .entry))) ⌝ }
@@ -68,6 +70,7 @@ fn digits_at(s: &[u8], at: usize) -> Digits
     Digits { end, index }
 }
 
+// A name at a place of a line: an X, and digits with no leading zero.
 fn name_at(s: &[u8], at: usize) -> Named
     requires { ⌜ at ≤ length (now s) ⌝ }
     ensures { λ r. ⌜ r ≡ found-in (length (now (s .entry))) (name (drop at (now (s .entry)))) ⌝ }

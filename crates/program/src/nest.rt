@@ -68,6 +68,7 @@ fn are_alike(kind: u8, other: u8) -> bool
 }
 
 impl Nest {
+    // No pair is open.
     pub fn none() -> Self
         ensures { λ r. ⌜ r ≡ no-pairs ⌝ }
     {
