@@ -1,9 +1,10 @@
 -- One register of a lent store: what it holds, a symbol appended, the first symbol deleted.
 use mathlib.Core.Path.{_≡_, refl, sym, ap, _∙_}
-use mathlib.Core.Bool.{true, false}
+use mathlib.Core.Bool.{Bool, true, false, cond}
 use mathlib.Core.List.{List, [], _∷_, _++_}
 use Prim.Native.Nat.{ℕ, suc, _+_, _-_, _*_, _≤_, _<_}
 use native.Mathlib.Omega.{arith}
+use lib.Dec.{eqb}
 use borrow.Rule.Slice.PartMut.{putMid, set-mid-at}
 use lib.ListN.{length, take, drop, getD, set, replicate, length-set, length-append, length-map}
 use lib.Seq.{set-at, take-at, drop-at, drop-cons, append-snoc, getD-take, getD-drop}
@@ -14,7 +15,7 @@ use Rattle.theory.specs.Machines as M
 use Rattle.theory.specs.Machines.{laid, lengths-of}
 use Rattle.theory.proofs.Cells.{put-ind}
 use Rattle.theory.proofs.GoodMemory.{length-laid, length-store, getD-cells, place-in-store}
-use Rattle.machine.specs.Held.{Sized, Held, Appended, Deleted, shifted}
+use Rattle.machine.specs.Held.{Sized, Held, Appended, Deleted, shifted, by-symbol}
 use Rattle.machine.proofs.Registers.{store-put, lengths-put}
 
 -- One place
@@ -43,6 +44,13 @@ laid-delete capacity x xs h =
     let e : capacity - length xs ≡ suc (capacity - suc (length xs)) = omega arith in
     rw (take-at (bytes-of xs) zeros (length xs) size, drop-cons part (length xs) 0 long, drop-at (bytes-of xs) zeros (length xs) size, e)
     (set-at (bytes-of xs) (getD part (length xs) 0) zeros 0 (length xs) size)
+
+pub by-symbol-small : (b : ℕ) → by-symbol b ≤ 3
+by-symbol-small b = go (eqb b 49)
+  where
+    go : (t : Bool) → cond t 2 3 ≤ 3
+    go true = omega arith
+    go false = omega arith
 
 -- A store that holds registers, at register i, counted from 0
 
@@ -109,15 +117,15 @@ module _ {capacity : ℕ} {f : ℕ → List Symbol} {store lengths : List ℕ} (
     held-full x long = (rw held-length at long, h)
 
     -- The part that is register i's place, without its first symbol
-    pub held-delete : (b : ℕ) (part : Bytes) → 0 < getD lengths i 0 → b ≡ getD store (i * capacity) 0
+    pub held-delete : (here there : ℕ) (part : Bytes) → 0 < getD lengths i 0 → there ≡ here + by-symbol (getD store (i * capacity) 0)
         → part ≡ set (shifted (getD lengths i 0 - 1) (take capacity (drop (i * capacity) store))) (getD lengths i 0 - 1) 0
-        → Deleted capacity f i (f (suc i)) b (putMid (i * capacity) capacity store part) (set lengths i (getD lengths i 0 - 1))
-    held-delete b part some first after = go (f (suc i)) refl
+        → Deleted capacity f i (f (suc i)) here there (putMid (i * capacity) capacity store part) (set lengths i (getD lengths i 0 - 1))
+    held-delete here there part some goes after = go (f (suc i)) refl
       where
         go : (ys : List Symbol) → f (suc i) ≡ ys
-            → Deleted capacity f i ys b (putMid (i * capacity) capacity store part) (set lengths i (getD lengths i 0 - 1))
+            → Deleted capacity f i ys here there (putMid (i * capacity) capacity store part) (set lengths i (getD lengths i 0 - 1))
         go [] e = absurd (omega (arith, held-length, ap length e))
-        go (x ∷ xs) e = (byte-is, rw (count-is, part-is) (held-put xs (omega (arith, room))))
+        go (x ∷ xs) e = (goes ∙ ap (λ (b : ℕ). here + by-symbol b) byte-is, rw (count-is, part-is) (held-put xs (omega (arith, room))))
           where
             room : length xs < capacity
             room = omega (arith, h .fits i l, ap length e)
@@ -131,16 +139,16 @@ module _ {capacity : ℕ} {f : ℕ → List Symbol} {store lengths : List ℕ} (
             part-is : part ≡ laid capacity xs
             part-is = after ∙ rw (count-is, place-is) (laid-delete capacity x xs room)
 
-            byte-is : b ≡ byte-of x
+            byte-is : getD store (i * capacity) 0 ≡ byte-of x
             byte-is =
                 let z : i * capacity + 0 ≡ i * capacity = omega arith in
-                first ∙ ap (λ (k : ℕ). getD store k 0) (sym z)
+                ap (λ (k : ℕ). getD store k 0) (sym z)
                 ∙ sym (getD-take capacity (drop (i * capacity) store) 0 0 (omega (arith, room)) ∙ getD-drop (i * capacity) store 0 0)
                 ∙ ap (λ (p : Bytes). getD p 0 0) place-is
 
-    pub held-empty : (b : ℕ) → getD lengths i 0 ≡ 0 → b ≡ 0 → Deleted capacity f i (f (suc i)) b store lengths
-    held-empty b none z = go (f (suc i)) refl
+    pub held-empty : (here : ℕ) → getD lengths i 0 ≡ 0 → Deleted capacity f i (f (suc i)) here (here + 1) store lengths
+    held-empty here none = go (f (suc i)) refl
       where
-        go : (ys : List Symbol) → f (suc i) ≡ ys → Deleted capacity f i ys b store lengths
-        go [] e = (z, h)
+        go : (ys : List Symbol) → f (suc i) ≡ ys → Deleted capacity f i ys here (here + 1) store lengths
+        go [] e = (refl, h)
         go (x ∷ xs) e = absurd (omega (arith, held-length, ap length e))

@@ -5,7 +5,6 @@ use mathlib.Core.List.{List, [], _∷_, _++_}
 use Prim.Native.Nat.{ℕ, suc, _+_, _-_, _≤_}
 use native.Mathlib.Omega.{arith}
 use borrow.Author.Tests.{le-leb, lt-leb}
-use lib.Dec.{eqb}
 use lib.IntN.{ℤ, pos, negsuc, _+ℤ_, _-ℤ_, +ℤ-assoc, +ℤ-comm, +ℤ-negℤ-cancel}
 use lib.ListN.{length}
 use Rattle.theory.specs.Basics.{put}
@@ -13,7 +12,7 @@ use Rattle.theory.specs.Word as W
 use Rattle.theory.specs.Word.{Symbol, one, hash, Instruction, append, forward, backward, cases}
 use Rattle.machine.specs.declared.effect.Step.the-variants.{To}
 use Rattle.machine.specs.Held.{Held, Appended, Deleted}
-use Rattle.machine.specs.Steps.{Performed, placed, next-if, by-byte}
+use Rattle.machine.specs.Steps.{Performed, placed, next-if}
 
 -- Places
 
@@ -67,14 +66,6 @@ is-cases (forward n) no-1 no-2 no-3 no-4 k e = absurd (no-3 (sym k))
 is-cases (backward n) no-1 no-2 no-3 no-4 k e = absurd (no-4 (sym k))
 is-cases (cases n) no-1 no-2 no-3 no-4 k e = ap {B = Instruction} cases e
 
-pub by-byte-small : (b : ℕ) → by-byte b ≤ 3
-by-byte-small b = go (eqb b 0) (eqb b 49)
-  where
-    go : (s t : Bool) → cond s 1 (cond t 2 3) ≤ 3
-    go true t = omega arith
-    go false true = omega arith
-    go false false = omega arith
-
 -- What each does, at register r counted from 0
 
 module _ (capacity : ℕ) (f : ℕ → List Symbol) (here : ℕ) (store lengths : List ℕ) where
@@ -96,12 +87,12 @@ module _ (capacity : ℕ) (f : ℕ → List Symbol) (here : ℕ) (store lengths 
       → Performed capacity f here (backward n) (To (here - n)) store lengths
   did-backward n l h = (f, rw (place-backward here n l), h, omega arith)
 
-  pub did-cases : (r b : ℕ) → Deleted capacity f r (f (suc r)) b store lengths
-      → Performed capacity f here (cases (suc r)) (To (here + by-byte b)) store lengths
-  did-cases r b = go (f (suc r)) refl
+  pub did-cases : (r there : ℕ) → Deleted capacity f r (f (suc r)) here there store lengths
+      → Performed capacity f here (cases (suc r)) (To there) store lengths
+  did-cases r there = go (f (suc r)) refl
     where
-      go : (ys : List Symbol) → f (suc r) ≡ ys → Deleted capacity f r ys b store lengths
-          → Performed capacity f here (cases (suc r)) (To (here + by-byte b)) store lengths
+      go : (ys : List Symbol) → f (suc r) ≡ ys → Deleted capacity f r ys here there store lengths
+          → Performed capacity f here (cases (suc r)) (To there) store lengths
       go [] e h = rw (h .0) (f, rw (e, place-forward here 1), h .1, omega arith)
       go (one ∷ xs) e h = rw (h .0) (put f (suc r) xs, rw (e, place-forward here 2), h .1, omega arith)
       go (hash ∷ xs) e h = rw (h .0) (put f (suc r) xs, rw (e, place-forward here 3), h .1, omega arith)

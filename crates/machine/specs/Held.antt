@@ -1,8 +1,9 @@
 -- What the crate's own functions promise each other: registers laid out in a lent store, symbols appended and deleted.
 use mathlib.Core.Path.{_≡_}
-use mathlib.Core.Bool.{Bool, true, false}
+use mathlib.Core.Bool.{Bool, true, false, cond}
 use mathlib.Core.List.{List, [], _∷_, _++_}
-use Prim.Native.Nat.{ℕ, suc, _*_, _≤_, _<_}
+use Prim.Native.Nat.{ℕ, suc, _+_, _*_, _≤_, _<_}
+use lib.Dec.{eqb}
 use lib.ListN.{length, getD, take, drop}
 use Rattle.theory.specs.Basics.{put, all-below}
 use Rattle.theory.specs.Text.{Bytes}
@@ -36,7 +37,12 @@ Appended capacity f r x true store lengths =
     (length (f (suc r)) < capacity) × Held capacity (put f (suc r) (f (suc r) ++ (x ∷ []))) store lengths
 Appended capacity f r x false store lengths = (capacity ≤ length (f (suc r))) × Held capacity f store lengths
 
--- A call that deletes the first symbol of register r, counted from 0, which holds xs, answers its byte, or 0 where there is none
-abbrev pub Deleted : ℕ → (ℕ → List Symbol) → ℕ → List Symbol → ℕ → Bytes → List ℕ → Type 0
-Deleted capacity f r [] b store lengths = (b ≡ 0) × Held capacity f store lengths
-Deleted capacity f r (x ∷ xs) b store lengths = (b ≡ byte-of x) × Held capacity (put f (suc r) xs) store lengths
+-- How far cases go forward after deleting the symbol of byte b
+abbrev pub by-symbol : ℕ → ℕ
+by-symbol b = cond (eqb b 49) 2 3
+
+-- A call that deletes the first symbol of register r, counted from 0, which holds xs, answers where cases go from here
+abbrev pub Deleted : ℕ → (ℕ → List Symbol) → ℕ → List Symbol → ℕ → ℕ → Bytes → List ℕ → Type 0
+Deleted capacity f r [] here there store lengths = (there ≡ here + 1) × Held capacity f store lengths
+Deleted capacity f r (x ∷ xs) here there store lengths =
+    (there ≡ here + by-symbol (byte-of x)) × Held capacity (put f (suc r) xs) store lengths

@@ -4,7 +4,6 @@ use mathlib.Core.Bool.{Bool, true, cond}
 use mathlib.Core.Option.{none, some}
 use mathlib.Core.List.{List}
 use Prim.Native.Nat.{ℕ, _+_, _≤_, _<_}
-use lib.Dec.{eqb}
 use lib.IntN.{ℤ, pos, negsuc, subℕ}
 use lib.ListN.{length, getD}
 use Rattle.theory.specs.Text.{Bytes}
@@ -59,7 +58,3 @@ Performed capacity f here i Full store lengths = (perform (within capacity) (sta
 -- After an append, where there was room
 abbrev pub next-if : Bool → ℕ → Step
 next-if room here = cond room (To (here + 1)) Full
-
--- After a deletion: nothing was there, a 1, or a #
-abbrev pub by-byte : ℕ → ℕ
-by-byte b = cond (eqb b 0) 1 (cond (eqb b 49) 2 3)

@@ -6,29 +6,29 @@ ghost use lib.IntN.{pos, negℤ};
 ghost use lib.ListN.{length};
 ghost use Rattle.theory.specs.Word.{Symbol, Instruction};
 ghost use Rattle.machine.specs.Held.{Sized, Held};
-ghost use Rattle.machine.specs.Steps.{Usable, Performed, Counted, placed, number-of, next-if, by-byte};
+ghost use Rattle.machine.specs.Steps.{Usable, Performed, Counted, placed, number-of, next-if};
 ghost use Rattle.theory.specs.Word as W;
 use crate::store::append;
 use crate::store::delete_first;
 
 // Inside a run a place is kept as a number so much higher, so that it never falls below 0.
-pub const BIAS: u32 = 1000000;
+pub const BIAS: usize = 1000000;
 
 // What one instruction does: it goes to a place, or is full.
 pub enum Step {
-    To(u32),
+    To(usize),
     Full,
 }
 
 // The number of a place that is not negative, else 0.
-pub fn number(place: i32) -> u32
+pub fn number(place: i32) -> usize
     ensures { λ r. ⌜ r ≡ number-of place ⌝ }
 {
-    if place < 0 { 0 } else { place as u32 }
+    if place < 0 { 0 } else { place as usize }
 }
 
 // A place that is a number.
-fn ahead(n: u32) -> i32
+fn ahead(n: usize) -> i32
     requires { ⌜ n < 2 ^ 31 ⌝ }
     ensures { λ r. ⌜ r ≡ pos n ⌝ }
 {
@@ -36,7 +36,7 @@ fn ahead(n: u32) -> i32
 }
 
 // A place that is so much below 0.
-fn below(n: u32) -> i32
+fn below(n: usize) -> i32
     requires { ⌜ n < 2 ^ 31 ⌝ }
     ensures { λ r. ⌜ r ≡ negℤ (pos n) ⌝ }
 {
@@ -44,7 +44,7 @@ fn below(n: u32) -> i32
 }
 
 // The place that a run keeps as a number.
-pub fn place_of(here: u32) -> i32
+pub fn place_of(here: usize) -> i32
     requires { ⌜ here < 2 ^ 31 ⌝ }
     ensures { λ r. ⌜ r ≡ placed here ⌝ }
 {
@@ -56,22 +56,11 @@ pub fn place_of(here: u32) -> i32
 }
 
 // The step after an append.
-fn next_if(room: bool, here: u32) -> Step
+fn next_if(room: bool, here: usize) -> Step
     requires { ⌜ here < 2 ^ 31 ⌝ }
     ensures { λ r. ⌜ r ≡ next-if room here ⌝ }
 {
     if room { Step::To(here + 1) } else { Step::Full }
-}
-
-// How far cases go forward after deleting the symbol of byte b, or none.
-fn by_byte(b: u8) -> u32
-    ensures { λ r. ⌜ r ≡ by-byte b ⌝ }
-{
-    match b {
-        0 => 1,
-        49 => 2,
-        _ => 3,
-    }
 }
 
 // Does one instruction, given by its kind and operand, from a place. "The number of # in an instruction, 1 to 5, decides its effect".
@@ -80,8 +69,8 @@ pub fn perform(
     lengths: &mut [u16],
     capacity: usize,
     kind: u8,
-    operand: u32,
-    here: u32,
+    operand: usize,
+    here: usize,
 ) -> Step
     requires { ⌜ Sized capacity (now store) (now lengths) × Counted capacity (now lengths) × Usable (length (now lengths)) kind operand
         × (600000 ≤ here) × (here < 2 ^ 31 - 600000) ⌝ }
@@ -90,19 +79,10 @@ pub fn perform(
         → Performed capacity f here i r (now (store .exit)) (now (lengths .exit))) ⌝ }
 {
     match kind {
-        1 => next_if(
-            append(store, lengths, capacity, operand as usize - 1, 49),
-            here,
-        ),
-        2 => next_if(
-            append(store, lengths, capacity, operand as usize - 1, 35),
-            here,
-        ),
+        1 => next_if(append(store, lengths, capacity, operand - 1, 49), here),
+        2 => next_if(append(store, lengths, capacity, operand - 1, 35), here),
         3 => Step::To(here + operand),
         4 => Step::To(here - operand),
-        _ => {
-            let b = delete_first(store, lengths, capacity, operand as usize - 1);
-            Step::To(here + by_byte(b))
-        }
+        _ => Step::To(delete_first(store, lengths, capacity, operand - 1, here)),
     }
 }

@@ -24,7 +24,7 @@ use theory::End;
 struct Stop {
     end: End,
     steps: u32,
-    here: u32,
+    here: usize,
 }
 
 // How many steps a run may do: the budget, or what its count has left.
@@ -36,7 +36,7 @@ fn allowance(budget: u32, steps: u32) -> u32
 }
 
 // How a run has ended that stands past the last instruction.
-fn end_past(here: u32, last: u32) -> End
+fn end_past(here: usize, last: usize) -> End
     requires { ⌜ last < 2 ^ 31 ⌝ }
     ensures { λ r. ⌜ r ≡ end-past here last ⌝ }
 {
@@ -54,7 +54,7 @@ fn run_inside(
     capacity: usize,
     kinds: &[u8],
     operands: &[u32],
-    from: u32,
+    from: usize,
     steps: u32,
     budget: u32,
 ) -> Stop
@@ -65,7 +65,7 @@ fn run_inside(
         from steps budget)
         r (now (store .exit)) (now (lengths .exit)) ⌝ }
 {
-    let last = BIAS + kinds.len() as u32;
+    let last = BIAS + kinds.len();
     let allowed = allowance(budget, steps);
     let mut here = from;
     let mut k: u32 = 0;
@@ -84,8 +84,15 @@ fn run_inside(
                 here,
             };
         }
-        let i = (here - BIAS - 1) as usize;
-        match perform(store, lengths, capacity, kinds[i], operands[i], here) {
+        let i = here - BIAS - 1;
+        match perform(
+            store,
+            lengths,
+            capacity,
+            kinds[i],
+            operands[i] as usize,
+            here,
+        ) {
             Step::To(there) => {
                 here = there;
             }
@@ -137,7 +144,7 @@ pub fn run_numbers(
     if n < 1 {
         return strayed(at);
     }
-    if kinds.len() as u32 + 1 < n {
+    if kinds.len() + 1 < n {
         return strayed(at);
     }
     let s = run_inside(

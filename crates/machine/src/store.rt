@@ -1,10 +1,10 @@
 // Registers in a lent store: a symbol appended, and the first symbol deleted.
 ghost use mathlib.Core.Path.{_≡_};
 ghost use mathlib.Core.List.{List};
-ghost use Prim.Native.Nat.{ℕ, suc, _≤_, _<_, _-_};
+ghost use Prim.Native.Nat.{ℕ, suc, _≤_, _<_, _-_, _^_};
 ghost use lib.ListN.{length, set, getD};
 ghost use Rattle.theory.specs.Word.{Symbol, byte-of};
-ghost use Rattle.machine.specs.Held.{Sized, Held, Appended, Deleted, shifted};
+ghost use Rattle.machine.specs.Held.{Sized, Held, Appended, Deleted, shifted, by-symbol};
 
 pub fn wide(x: u16) -> usize
     ensures { λ r. ⌜ r ≡ x ⌝ }
@@ -56,20 +56,35 @@ fn drop_first(part: &mut [u8], n: usize)
     part[n - 1] = 0;
 }
 
-// Deletes the first symbol of register r, counted from 0, and hands back its byte, or 0 where the register is empty.
-pub fn delete_first(store: &mut [u8], lengths: &mut [u16], capacity: usize, r: usize) -> u8
-    requires { ⌜ Sized capacity (now store) (now lengths) × (r < length (now lengths)) × (getD (now lengths) r 0 ≤ capacity) ⌝ }
-    ensures { λ b. ⌜ ((f : ℕ → List Symbol) → Held capacity f (now (store .entry)) (now (lengths .entry))
-        → Deleted capacity f r (f (suc r)) b (now (store .exit)) (now (lengths .exit))) ⌝ }
+// How far cases go forward after deleting the symbol of byte b.
+fn by_symbol(b: u8) -> usize
+    ensures { λ r. ⌜ r ≡ by-symbol b ⌝ }
+{
+    if b == 49 { 2 } else { 3 }
+}
+
+// Deletes the first symbol of register r, counted from 0, and hands back the place that cases go to from here. It is found before the
+// symbols move, since the next instruction waits for it.
+pub fn delete_first(
+    store: &mut [u8],
+    lengths: &mut [u16],
+    capacity: usize,
+    r: usize,
+    here: usize,
+) -> usize
+    requires { ⌜ Sized capacity (now store) (now lengths) × (r < length (now lengths)) × (getD (now lengths) r 0 ≤ capacity)
+        × (here < 2 ^ 31) ⌝ }
+    ensures { λ there. ⌜ ((f : ℕ → List Symbol) → Held capacity f (now (store .entry)) (now (lengths .entry))
+        → Deleted capacity f r (f (suc r)) here there (now (store .exit)) (now (lengths .exit))) ⌝ }
 {
     let n = wide(lengths[r]);
     if n == 0 {
-        return 0;
+        return here + 1;
     }
     let from = r * capacity;
     let to = from + capacity;
-    let b = store[from];
+    let there = here + by_symbol(store[from]);
     drop_first(&mut store[from..to], n);
     lengths[r] = narrow(n - 1);
-    b
+    there
 }

@@ -6,7 +6,7 @@ use lib.ListN.{length}
 use Rattle.theory.specs.Word.{one, hash}
 use Rattle.theory.specs.TurnedDown.{names-register}
 use Rattle.machine.proofs.Steps.{is-append-one, is-append-hash, is-forward, is-backward, is-cases}
-use Rattle.machine.proofs.Steps.{did-append, did-forward, did-backward, did-cases, by-byte-small}
+use Rattle.machine.proofs.Steps.{did-append, did-forward, did-backward, did-cases}
 use borrow.Author.Needs.{needs}
 use Rattle.machine.proofs.effect.perform.Statement.{statement}
 use Rattle.machine.proofs.effect.perform.Tie as tie
@@ -40,11 +40,11 @@ append-requires-2 c κs =
 next-if-requires-2 : tie.Need-next-if-requires-2
 next-if-requires-2 c κs = search needs
 
-add-t23 : tie.Need-add-t23
-add-t23 c = search needs
+add-t20 : tie.Need-add-t20
+add-t20 c = search needs
 
-sub-t24 : tie.Need-sub-t24
-sub-t24 c = search needs
+sub-t21 : tie.Need-sub-t21
+sub-t21 c = search needs
 
 sub-delete-first : tie.Need-sub-delete-first
 sub-delete-first c = search needs
@@ -55,18 +55,7 @@ delete-first-requires c κs =
     let a = c .before .before .before .before .before .args in
     let inside : a .operand - 1 < length (a .lengths .now) =
     omega (arith, p .2 .some, p .2 .named (ap names-register (is-five (c .before .before)))) in
-    (p .0, inside, p .1 (a .operand - 1) inside)
-
-by-byte-requires : tie.Need-by-byte-requires
-by-byte-requires c κs = search needs
-
-add-t32 : tie.Need-add-t32
-add-t32 c = omega (
-  arith,
-  by-byte-small (c .before .before .before .before .before .delete-first .result),
-  c .by-byte .ensures,
-  c .before .before .before .before .before .before .before .before .before .before .before .pre .4,
-)
+    (p .0, inside, p .1 (a .operand - 1) inside, omega (arith, p .4))
 
 same-length : tie.Need-same-length
 same-length c = search needs
@@ -122,13 +111,12 @@ same-length-6 c = search needs
 
 returns-5 : tie.Need-returns-5
 returns-5 c f i k o h =
-    let a = c .before .before .before .before .before .before .before .before .before .before .before .args in
-    let e : a .operand ≡ suc (a .operand - 1) = omega
-    (arith, c .before .before .before .before .before .before .before .before .before .before .before .pre .2 .some) in
-    let r = c .before .before .before .before .before .before .before .before .match .rest in
-    let b = c .before .before .before .before .before .delete-first in
-    rw (is-cases i (r .0 .0 .0 .1) (r .0 .0 .1) (r .0 .1) (r .1) k (o ∙ e), c .by-byte .ensures)
-    (did-cases (a .capacity) f (a .here) _ _ (a .operand - 1) (b .result) (b .ensures f h))
+    let a = c .before .before .before .before .before .before .before .before .before .before .args in
+    let e : a .operand ≡ suc (a .operand - 1) = omega (arith, c .before .before .before .before .before .before .before .before .before .before .pre .2 .some) in
+    let r = c .before .before .before .before .before .before .before .match .rest in
+    let d = c .before .before .before .before .delete-first in
+    rw (is-cases i (r .0 .0 .0 .1) (r .0 .0 .1) (r .0 .1) (r .1) k (o ∙ e))
+    (did-cases (a .capacity) f (a .here) _ _ (a .operand - 1) (d .result) (d .ensures f h))
 
 pub perform-spec : {M : Type 1} → statement M
 perform-spec =
@@ -140,12 +128,10 @@ perform-spec =
     sub-append-2
     append-requires-2
     next-if-requires-2
-    add-t23
-    sub-t24
+    add-t20
+    sub-t21
     sub-delete-first
     delete-first-requires
-    by-byte-requires
-    add-t32
     same-length
     same-length-2
     returns

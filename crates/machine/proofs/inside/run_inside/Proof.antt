@@ -23,9 +23,6 @@ Inv-loop store₀ lengths₀ capacity kinds operands from steps budget last allo
 abbrev μ-loop : tie.MeasureT-loop
 μ-loop store₀ lengths₀ capacity kinds operands from steps budget last allowed here₀ k₀ store lengths here k = allowed - k
 
-cast-last : tie.Need-cast-last Inv-loop μ-loop
-cast-last c = search needs
-
 add-last : tie.Need-add-last Inv-loop μ-loop
 add-last c = search needs
 
@@ -81,9 +78,6 @@ sub-i c = search needs
 sub-i-2 : tie.Need-sub-i-2 Inv-loop μ-loop
 sub-i-2 c = search needs
 
-cast-i : tie.Need-cast-i Inv-loop μ-loop
-cast-i c = search needs
-
 shared-slice-read-perform : tie.Need-shared-slice-read-perform Inv-loop μ-loop
 shared-slice-read-perform c = omega
     (arith, c .before .before .before .before .before .before .before .before .before .before .before .before .pre .1 .count)
@@ -94,6 +88,12 @@ mul-perform c = search needs
 shared-slice-read-perform-2 : tie.Need-shared-slice-read-perform-2 Inv-loop μ-loop
 shared-slice-read-perform-2 c = omega
     (arith, c .before .before .before .before .before .before .before .before .before .before .before .before .before .pre .1 .paired)
+
+cast-perform : tie.Need-cast-perform Inv-loop μ-loop
+cast-perform c =
+    let u = c .before .before .before .before .before .before .before .before .before .before .before .before .before .pre .1 in
+    let i = c .before .before .before .before .before .before .before .loop .here - 1000000 - 1 in
+    omega (arith, u .each i (omega (arith, u .count)) .small)
 
 perform-requires : tie.Need-perform-requires Inv-loop μ-loop
 perform-requires c κs =
@@ -196,7 +196,6 @@ run-inside-spec =
     (tie.spec
     Inv-loop
     μ-loop
-    cast-last
     add-last
     allowance-requires
     loop-holds
@@ -209,10 +208,10 @@ run-inside-spec =
     returns-2
     sub-i
     sub-i-2
-    cast-i
     shared-slice-read-perform
     mul-perform
     shared-slice-read-perform-2
+    cast-perform
     perform-requires
     enum-known-there
     enum-told

@@ -42,9 +42,6 @@ returns c =
     rw (c .strayed .ensures) (whole-outside (a .m) (a .store .now) (a .lengths .now) (p .0) (a .kinds .now) (a .operands .now) (p .1)
     (a .at) (a .budget) low)
 
-cast-if2 : tie.Need-cast-if2
-cast-if2 c = search needs
-
 add-if2 : tie.Need-add-if2
 add-if2 c = search needs
 
@@ -90,8 +87,8 @@ stopped c =
 place-of-requires : tie.Need-place-of-requires
 place-of-requires c κs = search needs
 
-add-t18 : tie.Need-add-t18
-add-t18 c =
+add-t22 : tie.Need-add-t22
+add-t22 c =
     let a = c .before .before .before .before .before .before .before .before .before .before .before .before .before .before .before
     .before .args in
     let p = c .before .before .before .before .before .before .before .before .before .before .before .before .before .before .before
@@ -125,14 +122,13 @@ run-numbers-spec =
     number-requires
     strayed-requires
     returns
-    cast-if2
     add-if2
     strayed-requires-2
     returns-2
     add-run-inside
     run-inside-requires
     place-of-requires
-    add-t18
+    add-t22
     same-length
     same-length-2
     returns-3)
