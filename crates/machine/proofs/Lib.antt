@@ -1,9 +1,10 @@
 pub mod Lists
-pub mod Shift
 pub mod Places
 pub mod Rule10
 pub mod Registers
 pub mod OneRegister
+pub mod Rings
+pub mod Ordering
 pub mod Signs
 pub mod Steps
 pub mod Instructions

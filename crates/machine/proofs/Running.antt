@@ -18,13 +18,15 @@ use Rattle.theory.specs.TurnedDown.{instructions}
 use Rattle.theory.specs.declared.End.{End}
 use Rattle.theory.specs.declared.End.the-variants.{Spent, Full}
 use Rattle.theory.proofs.Budgets.{Underway, underway-start, underway-ended, underway-spent, underway-counted, underway-full, underway-step}
-use Rattle.theory.proofs.Faults.{and-second}
+use Rattle.theory.proofs.Faults.{and-first, and-second}
 use Rattle.theory.proofs.GoodMemory.{memory-is-good, contents-fit, contents-stored, contents-counted}
 use Rattle.machine.specs.declared.effect.Step.the-variants as Step
 use Rattle.machine.specs.Held.{Held}
+use Rattle.machine.specs.Ring.{Ring, Zeros}
 use Rattle.word.specs.Answers.{zipped}
 use Rattle.machine.specs.Steps.{Usables, Performed, bias, placed, state}
 use Rattle.machine.specs.Inside.{Allowance, Stopped, lent, machine-of, run-from}
+use Rattle.machine.proofs.Rings.{held-ring}
 use Rattle.machine.proofs.Instructions.{Spelt, instructions-length, instructions-at}
 use Rattle.machine.proofs.Outside.{inside-going, fetch-inside}
 
@@ -39,10 +41,11 @@ memory-held capacity store lengths good =
     }
 
 pub memory-limits : (capacity : ℕ) (store lengths : List ℕ) → is-memory (lent capacity store lengths) ≡ true
-    → (length lengths ≤ 64) × (capacity ≤ 1024)
+    → (length lengths ≤ 64) × (1 ≤ capacity) × (capacity ≤ 1024)
 memory-limits capacity store lengths good =
     let g = memory-is-good (lent capacity store lengths) good in (
       leb-true (length lengths) 64 (and-second (leb 1 (length lengths)) (leb (length lengths) 64) (g .registers)),
+      leb-true 1 capacity (and-first (leb 1 capacity) (leb capacity 1024) (g .capacity)),
       leb-true capacity 1024 (and-second (leb 1 capacity) (leb capacity 1024) (g .capacity)),
     )
 
@@ -50,22 +53,23 @@ module _ (capacity : ℕ) (store₀ lengths₀ kinds operands : List ℕ) (from 
   abbrev pub outcome : Outcome W.State
   outcome = run-from kinds operands (lent capacity store₀ lengths₀) from steps budget
 
-  pub record Running (store lengths : List ℕ) (here k : ℕ) : Type 0 where
+  pub record Running (store lengths starts : List ℕ) (here k : ℕ) : Type 0 where
     pub registers : ℕ → List Symbol
-    pub held : Held capacity registers store lengths
+    pub held : Ring capacity registers store lengths starts
     pub left : Underway (machine-of capacity kinds operands) outcome k (budget - k) (steps + k) (state here registers)
     pub done : k ≤ allowed
     pub near : here < 2000000
     pub stores : length store ≡ length store₀
     pub counts : length lengths ≡ length lengths₀
 
-  pub running-start : is-memory (lent capacity store₀ lengths₀) ≡ true → from < 2000000 → Running store₀ lengths₀ from 0
-  running-start good near =
+  pub running-start : (starts : List ℕ) → is-memory (lent capacity store₀ lengths₀) ≡ true → Zeros (length lengths₀) starts → from < 2000000
+      → Running store₀ lengths₀ starts from 0
+  running-start starts good zeros near =
       let b : budget - 0 ≡ budget = omega arith in
       let n : steps + 0 ≡ steps = omega arith in
       record {
         registers = contents (lent capacity store₀ lengths₀);
-        held = memory-held capacity store₀ lengths₀ good;
+        held = held-ring (memory-held capacity store₀ lengths₀ good) (memory-limits capacity store₀ lengths₀ good .1) zeros;
         left = rw (b, n) (underway-start (machine-of capacity kinds operands) budget steps
             (state from (contents (lent capacity store₀ lengths₀))));
         done = omega arith;
@@ -74,12 +78,12 @@ module _ (capacity : ℕ) (store₀ lengths₀ kinds operands : List ℕ) (from 
         counts = refl;
       }
 
-  module _ {store lengths : List ℕ} {here k : ℕ} (r : Running store lengths here k) (u : Usables (length lengths₀) kinds operands) where
+  module _ {store lengths starts : List ℕ} {here k : ℕ} (r : Running store lengths starts here k) (u : Usables (length lengths₀) kinds operands) where
     abbrev s : W.State
     s = state here (r .registers)
 
     stops : (e : End) → outcome ≡ record { end = e; steps = k; state = s }
-        → Stopped capacity outcome (record { end = e; steps = k; here = here }) store lengths
+        → Stopped (λ f. Ring capacity f store lengths starts) outcome (record { end = e; steps = k; here = here })
     stops e h = record {
       end = ap (λ (o : Outcome W.State). o .end) h;
       steps = ap (λ (o : Outcome W.State). o .steps) h;
@@ -92,7 +96,7 @@ module _ (capacity : ℕ) (store₀ lengths₀ kinds operands : List ℕ) (from 
     ends e h = rw (instructions-length (length lengths₀) kinds operands (u .paired) (u .each)) h
 
     pub running-ended : (e : End) → ended-at (length kinds) (placed here) ≡ some e
-        → Stopped capacity outcome (record { end = e; steps = k; here = here }) store lengths
+        → Stopped (λ f. Ring capacity f store lengths starts) outcome (record { end = e; steps = k; here = here })
     running-ended e h =
         stops e (underway-ended (machine-of capacity kinds operands) outcome k (budget - k) (steps + k) s (r .left) e (ends (some e) h))
 
@@ -100,7 +104,7 @@ module _ (capacity : ℕ) (store₀ lengths₀ kinds operands : List ℕ) (from 
       going : machine-of capacity kinds operands .ended s ≡ none
       going = ends none (inside-going (length kinds) here a b)
 
-      pub running-spent : k ≡ allowed → Stopped capacity outcome (record { end = Spent; steps = k; here = here }) store lengths
+      pub running-spent : k ≡ allowed → Stopped (λ f. Ring capacity f store lengths starts) outcome (record { end = Spent; steps = k; here = here })
       running-spent e =
           ⊎-elim
           (λ (z : allowed ≡ budget). stops Spent
@@ -127,10 +131,10 @@ module _ (capacity : ℕ) (store₀ lengths₀ kinds operands : List ℕ) (from 
         rest : budget - k ≡ suc (budget - suc k)
         rest = omega (arith, al .within)
 
-        pub running-full : {store′ lengths′ : List ℕ}
+        pub running-full : {store′ lengths′ starts′ : List ℕ}
             → ((i : W.Instruction) → W.kind i ≡ getD kinds (here - bias - 1) 0 → W.operand i ≡ getD operands (here - bias - 1) 0
-            → Performed capacity (r .registers) here i Step.Full store′ lengths′)
-            → Stopped capacity outcome (record { end = Full; steps = k; here = here }) store′ lengths′
+            → Performed capacity (r .registers) here i Step.Full store′ lengths′ starts′)
+            → Stopped (λ f. Ring capacity f store′ lengths′ starts′) outcome (record { end = Full; steps = k; here = here })
         running-full did =
             let (i, is, kind, operand) = here-is in
             let (full, held) = did i kind operand in
@@ -144,10 +148,10 @@ module _ (capacity : ℕ) (store₀ lengths₀ kinds operands : List ℕ) (from 
               near = r .near;
             }
 
-        pub running-step : {store′ lengths′ : List ℕ} (there : ℕ)
+        pub running-step : {store′ lengths′ starts′ : List ℕ} (there : ℕ)
             → ((i : W.Instruction) → W.kind i ≡ getD kinds (here - bias - 1) 0 → W.operand i ≡ getD operands (here - bias - 1) 0
-            → Performed capacity (r .registers) here i (Step.To there) store′ lengths′)
-            → length kinds ≤ 8192 → length store′ ≡ length store → length lengths′ ≡ length lengths → Running store′ lengths′ there (k + 1)
+            → Performed capacity (r .registers) here i (Step.To there) store′ lengths′ starts′)
+            → length kinds ≤ 8192 → length store′ ≡ length store → length lengths′ ≡ length lengths → Running store′ lengths′ starts′ there (k + 1)
         running-step there did small st le =
             let (i, is, kind, operand) = here-is in
             let (g, went, held, near) = did i kind operand in

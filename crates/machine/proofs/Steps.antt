@@ -11,8 +11,8 @@ use Rattle.theory.specs.Basics.{put}
 use Rattle.theory.specs.Word as W
 use Rattle.theory.specs.Word.{Symbol, one, hash, Instruction, append, forward, backward, cases}
 use Rattle.machine.specs.declared.effect.Step.the-variants.{To}
-use Rattle.machine.specs.Held.{Held, Appended, Deleted}
-use Rattle.machine.specs.Steps.{Performed, placed, next-if}
+use Rattle.machine.specs.Ring.{Ring, Appended, Deleted}
+use Rattle.machine.specs.Steps.{Performed, placed, next-if, by-byte}
 
 -- Places
 
@@ -68,9 +68,9 @@ is-cases (cases n) no-1 no-2 no-3 no-4 k e = ap {B = Instruction} cases e
 
 -- What each does, at register r counted from 0
 
-module _ (capacity : ℕ) (f : ℕ → List Symbol) (here : ℕ) (store lengths : List ℕ) where
-  pub did-append : (r : ℕ) (x : Symbol) (room : Bool) → Appended capacity f r x room store lengths
-      → Performed capacity f here (append x (suc r)) (next-if room here) store lengths
+module _ (capacity : ℕ) (f : ℕ → List Symbol) (here : ℕ) (store lengths starts : List ℕ) where
+  pub did-append : (r : ℕ) (x : Symbol) (room : Bool) → Appended capacity f r x room store lengths starts
+      → Performed capacity f here (append x (suc r)) (next-if room here) store lengths starts
   did-append r x true h = (
     put f (suc r) (f (suc r) ++ (x ∷ [])),
     rw (le-leb (suc (length (f (suc r)))) capacity (h .0), place-forward here 1),
@@ -79,20 +79,20 @@ module _ (capacity : ℕ) (f : ℕ → List Symbol) (here : ℕ) (store lengths 
   )
   did-append r x false h = (rw (lt-leb (suc (length (f (suc r)))) capacity (omega (arith, h .0))), h .1)
 
-  pub did-forward : (n : ℕ) → n ≤ 600000 → Held capacity f store lengths
-      → Performed capacity f here (forward n) (To (here + n)) store lengths
+  pub did-forward : (n : ℕ) → n ≤ 600000 → Ring capacity f store lengths starts
+      → Performed capacity f here (forward n) (To (here + n)) store lengths starts
   did-forward n l h = (f, rw (place-forward here n), h, omega arith)
 
-  pub did-backward : (n : ℕ) → n ≤ here → Held capacity f store lengths
-      → Performed capacity f here (backward n) (To (here - n)) store lengths
+  pub did-backward : (n : ℕ) → n ≤ here → Ring capacity f store lengths starts
+      → Performed capacity f here (backward n) (To (here - n)) store lengths starts
   did-backward n l h = (f, rw (place-backward here n l), h, omega arith)
 
-  pub did-cases : (r there : ℕ) → Deleted capacity f r (f (suc r)) here there store lengths
-      → Performed capacity f here (cases (suc r)) (To there) store lengths
-  did-cases r there = go (f (suc r)) refl
+  pub did-cases : (r b : ℕ) → Deleted capacity f r (f (suc r)) b store lengths starts
+      → Performed capacity f here (cases (suc r)) (by-byte b here) store lengths starts
+  did-cases r b = go (f (suc r)) refl
     where
-      go : (ys : List Symbol) → f (suc r) ≡ ys → Deleted capacity f r ys here there store lengths
-          → Performed capacity f here (cases (suc r)) (To there) store lengths
+      go : (ys : List Symbol) → f (suc r) ≡ ys → Deleted capacity f r ys b store lengths starts
+          → Performed capacity f here (cases (suc r)) (by-byte b here) store lengths starts
       go [] e h = rw (h .0) (f, rw (e, place-forward here 1), h .1, omega arith)
       go (one ∷ xs) e h = rw (h .0) (put f (suc r) xs, rw (e, place-forward here 2), h .1, omega arith)
       go (hash ∷ xs) e h = rw (h .0) (put f (suc r) xs, rw (e, place-forward here 3), h .1, omega arith)

@@ -24,6 +24,7 @@ use Rattle.machine.specs.declared.answers.Run.{Run}
 use Rattle.machine.specs.declared.inside.Stop.{Stop}
 use Rattle.machine.specs.declared.answers.Ended.the-variants.{Ran}
 use Rattle.word.specs.Answers.{zipped}
+use Rattle.machine.specs.Held.{Held}
 use Rattle.machine.specs.Steps.{Usables, bias, number-of, placed}
 use Rattle.machine.specs.Inside.{Stopped, lent, run-from}
 use Rattle.machine.specs.Calls.{Called, memory, position, handed, ran, stands-outside}
@@ -87,7 +88,7 @@ module _ (m : Machine) (store lengths : List ℕ) (good : is-memory (memory m st
         (record { place = p .place; registers = contents (memory m store lengths) }) l
 
     pub whole-stopped : (s : Stop) (there : ℤ) (store′ lengths′ : List ℕ) → there ≡ placed (s .here) → length lengths′ ≡ length lengths
-        → Stopped (m .capacity) o s store′ lengths′
+        → Stopped (λ f. Held (m .capacity) f store′ lengths′) o s
         → handed (record {
           position = record { place = there; steps = p .steps + s .steps };
           ended = Ran (s .end)

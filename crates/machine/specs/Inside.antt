@@ -10,12 +10,12 @@ use Rattle.theory.specs.Text.{Bytes}
 use Rattle.theory.specs.Limits.{last-count}
 use Rattle.theory.specs.Runs.{Machine, Outcome, run, within}
 use Rattle.theory.specs.Word as W
+use Rattle.theory.specs.Word.{Symbol}
 use Rattle.theory.specs.Machines.{Memory, contents}
 use Rattle.theory.specs.TurnedDown.{instructions}
 use Rattle.theory.specs.declared.End.{End}
 use Rattle.theory.specs.declared.End.the-variants.{Halted, Strayed}
 use Rattle.machine.specs.declared.inside.Stop.{Stop}
-use Rattle.machine.specs.Held.{Held}
 use Rattle.word.specs.Answers.{zipped}
 use Rattle.machine.specs.Steps.{placed, state}
 
@@ -40,10 +40,10 @@ machine-of capacity kinds operands = W.machine (within capacity) (instructions (
 abbrev pub run-from : List ℕ → List ℕ → Memory → ℕ → ℕ → ℕ → Outcome W.State
 run-from kinds operands m from steps budget = run (machine-of (m .capacity) kinds operands) budget steps (state from (contents m))
 
--- What a run that the definition gives as o handed back
-pub record Stopped (capacity : ℕ) (o : Outcome W.State) (r : Stop) (store : Bytes) (lengths : List ℕ) : Type 0 where
+-- What a run that the definition gives as o handed back; the lent memory holds its registers
+pub record Stopped (held-in : (ℕ → List Symbol) → Type 0) (o : Outcome W.State) (r : Stop) : Type 0 where
   pub end : o .end ≡ r .end
   pub steps : o .steps ≡ r .steps
   pub place : o .state .place ≡ placed (r .here)
-  pub held : Held capacity (o .state .registers) store lengths
+  pub held : held-in (o .state .registers)
   pub near : r .here < 2000000

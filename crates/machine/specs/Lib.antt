@@ -1,4 +1,5 @@
 pub mod Held
+pub mod Ring
 pub mod Steps
 pub mod Lacking
 pub mod Inside

@@ -4,6 +4,7 @@ use mathlib.Core.Bool.{Bool, true, cond}
 use mathlib.Core.Option.{none, some}
 use mathlib.Core.List.{List}
 use Prim.Native.Nat.{ℕ, _+_, _≤_, _<_}
+use lib.Dec.{eqb}
 use lib.IntN.{ℤ, pos, negsuc, subℕ}
 use lib.ListN.{length, getD}
 use Rattle.theory.specs.Text.{Bytes}
@@ -13,7 +14,7 @@ use Rattle.theory.specs.Word.{Symbol, Instruction, perform}
 use Rattle.theory.specs.TurnedDown.{names-register}
 use Rattle.machine.specs.declared.effect.Step.{Step}
 use Rattle.machine.specs.declared.effect.Step.the-variants.{To, Full}
-use Rattle.machine.specs.Held.{Held}
+use Rattle.machine.specs.Ring.{Ring}
 
 -- Inside a run a place is kept as a number 1,000,000 higher, so that it never falls below 0
 abbrev pub bias : ℕ
@@ -44,17 +45,18 @@ pub record Usables (registers : ℕ) (kinds operands : List ℕ) : Type 0 where
   pub count : length kinds ≤ 8192
   pub each : (i : ℕ) → i < length kinds → Usable registers (getD kinds i 0) (getD operands i 0)
 
--- No length is above the capacity
-abbrev pub Counted : ℕ → List ℕ → Type 0
-Counted capacity lengths = (i : ℕ) → i < length lengths → getD lengths i 0 ≤ capacity
-
 -- What an instruction did from a place: it went to another, or was full
-abbrev pub Performed : ℕ → (ℕ → List Symbol) → ℕ → Instruction → Step → Bytes → List ℕ → Type 0
-Performed capacity f here i (To there) store lengths =
-    (g : ℕ → List Symbol) × (perform (within capacity) (state here f) i ≡ some (state there g)) × Held capacity g store lengths
+abbrev pub Performed : ℕ → (ℕ → List Symbol) → ℕ → Instruction → Step → Bytes → List ℕ → List ℕ → Type 0
+Performed capacity f here i (To there) store lengths starts =
+    (g : ℕ → List Symbol) × (perform (within capacity) (state here f) i ≡ some (state there g)) × Ring capacity g store lengths starts
     × (there ≤ here + 600000)
-Performed capacity f here i Full store lengths = (perform (within capacity) (state here f) i ≡ none) × Held capacity f store lengths
+Performed capacity f here i Full store lengths starts =
+    (perform (within capacity) (state here f) i ≡ none) × Ring capacity f store lengths starts
 
 -- After an append, where there was room
 abbrev pub next-if : Bool → ℕ → Step
 next-if room here = cond room (To (here + 1)) Full
+
+-- After a deletion: nothing was there, a 1, or a #; no other byte stands in a register
+abbrev pub by-byte : ℕ → ℕ → Step
+by-byte b here = cond (eqb b 0) (To (here + 1)) (cond (eqb b 49) (To (here + 2)) (cond (eqb b 35) (To (here + 3)) Full))

@@ -5,8 +5,9 @@ ghost use Prim.Native.Nat.{ℕ, _≤_, _<_, _-_, _^_};
 ghost use lib.IntN.{pos, negℤ};
 ghost use lib.ListN.{length};
 ghost use Rattle.theory.specs.Word.{Symbol, Instruction};
-ghost use Rattle.machine.specs.Held.{Sized, Held};
-ghost use Rattle.machine.specs.Steps.{Usable, Performed, Counted, placed, number-of, next-if};
+ghost use Rattle.machine.specs.Held.{Sized};
+ghost use Rattle.machine.specs.Ring.{Ring, Ringed};
+ghost use Rattle.machine.specs.Steps.{Usable, Performed, placed, number-of, next-if, by-byte};
 ghost use Rattle.theory.specs.Word as W;
 use crate::store::append;
 use crate::store::delete_first;
@@ -63,26 +64,49 @@ fn next_if(room: bool, here: usize) -> Step
     if room { Step::To(here + 1) } else { Step::Full }
 }
 
+// The step after deleting the symbol of byte b, or none. No other byte stands in a register; it would be the end of the run.
+fn by_byte(b: u8, here: usize) -> Step
+    requires { ⌜ here < 2 ^ 31 ⌝ }
+    ensures { λ r. ⌜ r ≡ by-byte b here ⌝ }
+{
+    match b {
+        0 => Step::To(here + 1),
+        49 => Step::To(here + 2),
+        35 => Step::To(here + 3),
+        _ => Step::Full,
+    }
+}
+
 // Does one instruction, given by its kind and operand, from a place. "The number of # in an instruction, 1 to 5, decides its effect".
 pub fn perform(
     store: &mut [u8],
     lengths: &mut [u16],
+    starts: &mut [usize],
     capacity: usize,
     kind: u8,
     operand: usize,
     here: usize,
 ) -> Step
-    requires { ⌜ Sized capacity (now store) (now lengths) × Counted capacity (now lengths) × Usable (length (now lengths)) kind operand
-        × (600000 ≤ here) × (here < 2 ^ 31 - 600000) ⌝ }
+    requires { ⌜ Sized capacity (now store) (now lengths) × Ringed capacity (now store) (now lengths) (now starts)
+        × Usable (length (now lengths)) kind operand × (600000 ≤ here) × (here < 2 ^ 31 - 600000) ⌝ }
     ensures { λ r. ⌜ ((f : ℕ → List Symbol) (i : Instruction) → W.kind i ≡ kind → W.operand i ≡ operand
-        → Held capacity f (now (store .entry)) (now (lengths .entry))
-        → Performed capacity f here i r (now (store .exit)) (now (lengths .exit))) ⌝ }
+        → Ring capacity f (now (store .entry)) (now (lengths .entry)) (now (starts .entry))
+        → Performed capacity f here i r (now (store .exit)) (now (lengths .exit)) (now (starts .exit))) ⌝ }
 {
     match kind {
-        1 => next_if(append(store, lengths, capacity, operand - 1, 49), here),
-        2 => next_if(append(store, lengths, capacity, operand - 1, 35), here),
+        1 => next_if(
+            append(store, lengths, starts, capacity, operand - 1, 49),
+            here,
+        ),
+        2 => next_if(
+            append(store, lengths, starts, capacity, operand - 1, 35),
+            here,
+        ),
         3 => Step::To(here + operand),
         4 => Step::To(here - operand),
-        _ => Step::To(delete_first(store, lengths, capacity, operand - 1, here)),
+        _ => by_byte(
+            delete_first(store, lengths, starts, capacity, operand - 1),
+            here,
+        ),
     }
 }

@@ -6,6 +6,8 @@ ghost use lib.ListN.{length};
 ghost use Rattle.theory.specs.Machines.{is-memory};
 ghost use Rattle.theory.specs.TurnedDown.{done};
 ghost use Rattle.word.specs.Answers.{zipped};
+ghost use Rattle.machine.specs.Held.{Held};
+ghost use Rattle.machine.specs.Ring.{Ring, Zeros};
 ghost use Rattle.machine.specs.Steps.{Usables, bias};
 ghost use Rattle.machine.specs.Inside.{Allowance, Stopped, lent, end-past, run-from};
 ghost use Rattle.machine.specs.Calls.{memory, handed, called, stands-outside};
@@ -18,6 +20,7 @@ use crate::effect::Step;
 use crate::effect::number;
 use crate::effect::perform;
 use crate::effect::place_of;
+use crate::order::put_in_order;
 use theory::End;
 
 // Where a run inside stopped, how, and after how many steps.
@@ -47,10 +50,12 @@ fn end_past(here: usize, last: usize) -> End
     }
 }
 
-// A run from a place of the instructions, or right behind them. "Checked before each step: halted or strayed, then spent, then full".
-fn run_inside(
+// A run from a place of the instructions, or right behind them, on registers as rings. "Checked before each step: halted or strayed, then
+// spent, then full".
+fn run_rings(
     store: &mut [u8],
     lengths: &mut [u16],
+    starts: &mut [usize],
     capacity: usize,
     kinds: &[u8],
     operands: &[u32],
@@ -58,12 +63,11 @@ fn run_inside(
     steps: u32,
     budget: u32,
 ) -> Stop
-    requires { ⌜ (is-memory (lent capacity (now store) (now lengths)) ≡ true) × Usables (length (now lengths)) (now kinds) (now operands)
-        × (from ≤ bias + length (now kinds) + 1) ⌝ }
-    ensures { λ r. ⌜ Stopped capacity
+    requires { ⌜ (is-memory (lent capacity (now store) (now lengths)) ≡ true) × Zeros (length (now lengths)) (now starts)
+        × Usables (length (now lengths)) (now kinds) (now operands) × (from ≤ bias + length (now kinds) + 1) ⌝ }
+    ensures { λ r. ⌜ Stopped (λ f. Ring capacity f (now (store .exit)) (now (lengths .exit)) (now (starts .exit)))
         (run-from (now (kinds .entry)) (now (operands .entry)) (lent capacity (now (store .entry)) (now (lengths .entry)))
-        from steps budget)
-        r (now (store .exit)) (now (lengths .exit)) ⌝ }
+        from steps budget) r ⌝ }
 {
     let last = BIAS + kinds.len();
     let allowed = allowance(budget, steps);
@@ -88,6 +92,7 @@ fn run_inside(
         match perform(
             store,
             lengths,
+            starts,
             capacity,
             kinds[i],
             operands[i] as usize,
@@ -111,6 +116,39 @@ fn run_inside(
         steps: k,
         here,
     }
+}
+
+// The same run; the registers are put in order at its end.
+fn run_inside(
+    store: &mut [u8],
+    lengths: &mut [u16],
+    capacity: usize,
+    kinds: &[u8],
+    operands: &[u32],
+    from: usize,
+    steps: u32,
+    budget: u32,
+) -> Stop
+    requires { ⌜ (is-memory (lent capacity (now store) (now lengths)) ≡ true) × Usables (length (now lengths)) (now kinds) (now operands)
+        × (from ≤ bias + length (now kinds) + 1) ⌝ }
+    ensures { λ r. ⌜ Stopped (λ f. Held capacity f (now (store .exit)) (now (lengths .exit)))
+        (run-from (now (kinds .entry)) (now (operands .entry)) (lent capacity (now (store .entry)) (now (lengths .entry)))
+        from steps budget) r ⌝ }
+{
+    let mut starts = [0usize; 64];
+    let stop = run_rings(
+        store,
+        lengths,
+        &mut starts,
+        capacity,
+        kinds,
+        operands,
+        from,
+        steps,
+        budget,
+    );
+    put_in_order(store, &starts, lengths.len(), capacity);
+    stop
 }
 
 // A run that does no step, since it stands outside.

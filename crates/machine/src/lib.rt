@@ -4,6 +4,7 @@ mod effect;
 mod inside;
 mod lacking;
 mod memory;
+mod order;
 mod store;
 
 pub use answers::Ended;

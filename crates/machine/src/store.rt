@@ -1,10 +1,13 @@
-// Registers in a lent store: a symbol appended, and the first symbol deleted.
+// Registers in a lent store, inside a run: a symbol appended, and the first symbol deleted. Nothing is moved: a register's symbols lie in a
+// ring, from its start on and after the last byte of its place from the first.
 ghost use mathlib.Core.Path.{_≡_};
 ghost use mathlib.Core.List.{List};
-ghost use Prim.Native.Nat.{ℕ, suc, _≤_, _<_, _-_, _^_};
-ghost use lib.ListN.{length, set, getD};
+ghost use Prim.Native.Nat.{ℕ, suc, _<_};
+ghost use lib.ListN.{length};
 ghost use Rattle.theory.specs.Word.{Symbol, byte-of};
-ghost use Rattle.machine.specs.Held.{Sized, Held, Appended, Deleted, shifted, by-symbol};
+ghost use Rattle.machine.specs.Held.{Sized};
+ghost use Rattle.machine.specs.Ring as R;
+ghost use Rattle.machine.specs.Ring.{Ring, Ringed, Appended, Deleted};
 
 pub fn wide(x: u16) -> usize
     ensures { λ r. ⌜ r ≡ x ⌝ }
@@ -19,15 +22,31 @@ fn narrow(x: usize) -> u16
     x as u16
 }
 
+// A place in a ring of so many bytes, counted on past its end.
+pub fn wrapped(k: usize, size: usize) -> usize
+    ensures { λ r. ⌜ r ≡ R.wrapped size k ⌝ }
+{
+    if k < size { k } else { k - size }
+}
+
 // Appends the symbol of byte b to register r, counted from 0. It says whether there was room.
-pub fn append(store: &mut [u8], lengths: &mut [u16], capacity: usize, r: usize, b: u8) -> bool
-    requires { ⌜ Sized capacity (now store) (now lengths) × (r < length (now lengths)) ⌝ }
-    ensures { λ ok. ⌜ ((f : ℕ → List Symbol) (x : Symbol) → b ≡ byte-of x → Held capacity f (now (store .entry)) (now (lengths .entry))
-        → Appended capacity f r x ok (now (store .exit)) (now (lengths .exit))) ⌝ }
+pub fn append(
+    store: &mut [u8],
+    lengths: &mut [u16],
+    starts: &[usize],
+    capacity: usize,
+    r: usize,
+    b: u8,
+) -> bool
+    requires { ⌜ Sized capacity (now store) (now lengths) × (r < length (now lengths)) × Ringed capacity (now store) (now lengths) (now starts) ⌝ }
+    ensures { λ ok. ⌜ ((f : ℕ → List Symbol) (x : Symbol) → b ≡ byte-of x
+        → Ring capacity f (now (store .entry)) (now (lengths .entry)) (now (starts .entry))
+        → Appended capacity f r x ok (now (store .exit)) (now (lengths .exit)) (now (starts .entry))) ⌝ }
 {
     let n = wide(lengths[r]);
     if n < capacity {
-        store[r * capacity + n] = b;
+        let at = wrapped(starts[r] + n, capacity);
+        store[r * capacity + at] = b;
         lengths[r] = narrow(n + 1);
         true
     } else {
@@ -35,56 +54,28 @@ pub fn append(store: &mut [u8], lengths: &mut [u16], capacity: usize, r: usize, 
     }
 }
 
-// The first n elements of a part, each taken from the next place.
-fn shift_down(part: &mut [u8], n: usize)
-    requires { ⌜ n < length (now part) ⌝ }
-    ensures { λ _. ⌜ now (part .exit) ≡ shifted n (now (part .entry)) ⌝ }
-{
-    let mut i: usize = 0;
-    while i < n {
-        part[i] = part[i + 1];
-        i += 1;
-    }
-}
-
-// Deletes the first of the n symbols of a register's place.
-fn drop_first(part: &mut [u8], n: usize)
-    requires { ⌜ (0 < n) × (n ≤ length (now part)) ⌝ }
-    ensures { λ _. ⌜ now (part .exit) ≡ set (shifted (n - 1) (now (part .entry))) (n - 1) 0 ⌝ }
-{
-    shift_down(part, n - 1);
-    part[n - 1] = 0;
-}
-
-// How far cases go forward after deleting the symbol of byte b.
-fn by_symbol(b: u8) -> usize
-    ensures { λ r. ⌜ r ≡ by-symbol b ⌝ }
-{
-    if b == 49 { 2 } else { 3 }
-}
-
-// Deletes the first symbol of register r, counted from 0, and hands back the place that cases go to from here. It is found before the
-// symbols move, since the next instruction waits for it.
+// Deletes the first symbol of register r, counted from 0, and hands back its byte, or 0 where the register is empty.
 pub fn delete_first(
     store: &mut [u8],
     lengths: &mut [u16],
+    starts: &mut [usize],
     capacity: usize,
     r: usize,
-    here: usize,
-) -> usize
-    requires { ⌜ Sized capacity (now store) (now lengths) × (r < length (now lengths)) × (getD (now lengths) r 0 ≤ capacity)
-        × (here < 2 ^ 31) ⌝ }
-    ensures { λ there. ⌜ ((f : ℕ → List Symbol) → Held capacity f (now (store .entry)) (now (lengths .entry))
-        → Deleted capacity f r (f (suc r)) here there (now (store .exit)) (now (lengths .exit))) ⌝ }
+) -> u8
+    requires { ⌜ Sized capacity (now store) (now lengths) × (r < length (now lengths)) × Ringed capacity (now store) (now lengths) (now starts) ⌝ }
+    ensures { λ b. ⌜ ((f : ℕ → List Symbol)
+        → Ring capacity f (now (store .entry)) (now (lengths .entry)) (now (starts .entry))
+        → Deleted capacity f r (f (suc r)) b (now (store .exit)) (now (lengths .exit)) (now (starts .exit))) ⌝ }
 {
     let n = wide(lengths[r]);
     if n == 0 {
-        return here + 1;
+        return 0;
     }
-    let from = r * capacity;
-    let to = from + capacity;
-    let there = here + by_symbol(store[from]);
-    drop_first(&mut store[from..to], n);
+    let start = starts[r];
+    let at = r * capacity + start;
+    let b = store[at];
+    store[at] = 0;
+    starts[r] = wrapped(start + 1, capacity);
     lengths[r] = narrow(n - 1);
-    there
+    b
 }

@@ -1,226 +1,66 @@
--- `run_inside` meets its contract: between two steps the run of the definition is under way, and the store holds its registers.
-use mathlib.Core.Path.{sym, ap, _∙_, subst}
-use mathlib.Core.Option.{Option, some}
-use lib.ListN.{length}
-use Rattle.theory.specs.declared.End.{End}
-use Rattle.theory.specs.declared.End.the-variants.{Strayed}
-use Rattle.machine.specs.declared.effect.Step.{Step}
-use Rattle.machine.specs.Steps.{Performed}
-use Rattle.machine.proofs.OneRegister.{held-sized, held-within}
-use Rattle.machine.proofs.Outside.{past-ended, below-strayed}
-use Rattle.machine.proofs.Running.{memory-limits}
-use Prim.Native.Nat.{_-_}
+-- `run_inside` meets its contract: the run on rings that all begin at 0, and the rings put in order.
+use mathlib.Core.Path.{_≡_, refl, _∙_}
+use Prim.Native.Nat.{ℕ, zero, suc, _≤_}
 use native.Mathlib.Omega.{arith}
-use Rattle.machine.proofs.Running.{Running, running-start, running-ended, running-spent, running-full, running-step}
+use lib.ListN.{length, getD, replicate, length-replicate}
+use Rattle.machine.proofs.Rings.{ring-held}
+use Rattle.machine.proofs.Running.{memory-limits}
 use borrow.Author.Needs.{needs}
 use Rattle.machine.proofs.inside.run_inside.Statement.{statement}
 use Rattle.machine.proofs.inside.run_inside.Tie as tie
 
-abbrev Inv-loop : tie.InvT-loop
-Inv-loop store₀ lengths₀ capacity kinds operands from steps budget last allowed here₀ k₀ store lengths here k =
-    Running capacity store₀ lengths₀ kinds operands from steps budget allowed store lengths here k
+zero-at : (n i : ℕ) → getD {A = ℕ} (replicate n 0) i 0 ≡ 0
+zero-at zero i = refl
+zero-at (suc n) zero = refl
+zero-at (suc n) (suc i) = zero-at n i
 
-abbrev μ-loop : tie.MeasureT-loop
-μ-loop store₀ lengths₀ capacity kinds operands from steps budget last allowed here₀ k₀ store lengths here k = allowed - k
+slice-aggregate-run-rings : tie.Need-slice-aggregate-run-rings
+slice-aggregate-run-rings c = search needs
 
-add-last : tie.Need-add-last Inv-loop μ-loop
-add-last c = search needs
+run-rings-requires : tie.Need-run-rings-requires
+run-rings-requires c κs =
+    let a = c .before .before .before .before .before .before .before .args in
+    let p = c .before .before .before .before .before .before .before .pre in
+    let limits = memory-limits (a .capacity) (a .store .now) (a .lengths .now) (p .0) in
+    (p .0, record { enough = limits .0; each = λ i l. zero-at 64 i }, p .1, p .2)
 
-allowance-requires : tie.Need-allowance-requires Inv-loop μ-loop
-allowance-requires c κs = search needs
+slice-aggregate-put-in-order : tie.Need-slice-aggregate-put-in-order
+slice-aggregate-put-in-order c = search needs
 
-loop-holds : tie.Need-loop-holds Inv-loop μ-loop
-loop-holds c =
-    let a = c .before .before .before .before .before .args in
-    let p = c .before .before .before .before .before .pre in
-    running-start (a .capacity) (a .store .now) (a .lengths .now) (a .kinds .now) (a .operands .now) (a .from) (a .steps) (a .budget)
-    (c .allowance .result) (p .0) (omega (arith, p .2, p .1 .count))
+put-in-order-requires : tie.Need-put-in-order-requires
+put-in-order-requires c κs =
+    let a = c .before .before .before .before .before .before .before .before .before .before .before .before .before .before .before .args in
+    let p = c .before .before .before .before .before .before .before .before .before .before .before .before .before .before .before .pre in
+    let limits = memory-limits (a .capacity) (a .store .now) (a .lengths .now) (p .0) in
+    let r = c .before .before .before .before .before .before .before .run-rings in
+    let h = r .ensures .held in
+    (h .room, omega (arith, limits .0, r .kept .1 .0), limits .2, record { enough = h .enough; begins = h .begins })
 
-end-past-requires : tie.Need-end-past-requires Inv-loop μ-loop
-end-past-requires c κs = search needs
-
-same-length : tie.Need-same-length Inv-loop μ-loop
+same-length : tie.Need-same-length
 same-length c = search needs
 
-same-length-2 : tie.Need-same-length-2 Inv-loop μ-loop
+same-length-2 : tie.Need-same-length-2
 same-length-2 c = search needs
 
-returns : tie.Need-returns Inv-loop μ-loop
+returns : tie.Need-returns
 returns c =
-    let h = c .before .before .before in
-    let a = c .before .before .before .before .before .before .before .before .before .args in
-    let u = c .before .before .before .before .before .before .before .before .before .pre .1 in
-    let al = h .before .allowance in
-    let past = past-ended (length (a .kinds .now)) (h .loop .here) (search needs) in
-    running-ended (a .capacity) (a .store .now) (a .lengths .now) (a .kinds .now) (a .operands .now) (a .from) (a .steps) (a .budget)
-    (al .result) (h .loop .inv) u
-    (c .end-past .result) (past ∙ ap {B = Option End} some (sym (c .end-past .ensures)))
-
-same-length-3 : tie.Need-same-length-3 Inv-loop μ-loop
-same-length-3 c = search needs
-
-same-length-4 : tie.Need-same-length-4 Inv-loop μ-loop
-same-length-4 c = search needs
-
-returns-2 : tie.Need-returns-2 Inv-loop μ-loop
-returns-2 c =
-    let h = c .before .before .before in
-    let a = c .before .before .before .before .before .before .before .before .before .args in
-    let u = c .before .before .before .before .before .before .before .before .before .pre .1 in
-    let al = h .before .allowance in
-    running-spent (a .capacity) (a .store .now) (a .lengths .now) (a .kinds .now) (a .operands .now) (a .from) (a .steps) (a .budget)
-    (al .result) (h .loop .inv) u (search needs) (search needs) (al .ensures)
-    (c .if2 .taken)
-
-sub-i : tie.Need-sub-i Inv-loop μ-loop
-sub-i c = search needs
-
-sub-i-2 : tie.Need-sub-i-2 Inv-loop μ-loop
-sub-i-2 c = search needs
-
-shared-slice-read-perform : tie.Need-shared-slice-read-perform Inv-loop μ-loop
-shared-slice-read-perform c = omega
-    (arith, c .before .before .before .before .before .before .before .before .before .before .before .before .pre .1 .count)
-
-mul-perform : tie.Need-mul-perform Inv-loop μ-loop
-mul-perform c = search needs
-
-shared-slice-read-perform-2 : tie.Need-shared-slice-read-perform-2 Inv-loop μ-loop
-shared-slice-read-perform-2 c = omega
-    (arith, c .before .before .before .before .before .before .before .before .before .before .before .before .before .pre .1 .paired)
-
-cast-perform : tie.Need-cast-perform Inv-loop μ-loop
-cast-perform c =
-    let u = c .before .before .before .before .before .before .before .before .before .before .before .before .before .pre .1 in
-    let i = c .before .before .before .before .before .before .before .loop .here - 1000000 - 1 in
-    omega (arith, u .each i (omega (arith, u .count)) .small)
-
-perform-requires : tie.Need-perform-requires Inv-loop μ-loop
-perform-requires c κs =
-    let h = c .before .before .before .before .before .before .before in
-    let a = c .before .before .before .before .before .before .before .before .before .before .before .before .before .args in
-    let u = c .before .before .before .before .before .before .before .before .before .before .before .before .before .pre .1 in
-    let al = h .before .allowance in
-    let limits = memory-limits (a .capacity) (a .store .now) (a .lengths .now)
-    (c .before .before .before .before .before .before .before .before .before .before .before .before .before .pre .0) in
-    let r = h .loop .inv in
-    let i = h .loop .here - 1000000 - 1 in (
-      held-sized (r .held) (omega (arith, limits .0, r .counts)) (limits .1),
-      λ j l. held-within (r .held) j l,
-      rw (r .counts) (u .each i (omega (arith, u .count))),
-      omega arith,
-      omega (arith, u .count),
-    )
-
-enum-known-there : tie.Need-enum-known-there Inv-loop μ-loop
-enum-known-there c = search needs
-
-enum-told : tie.Need-enum-told Inv-loop μ-loop
-enum-told c = search needs
-
-same-length-5 : tie.Need-same-length-5 Inv-loop μ-loop
-same-length-5 c = search needs
-
-same-length-6 : tie.Need-same-length-6 Inv-loop μ-loop
-same-length-6 c = search needs
-
-returns-3 : tie.Need-returns-3 Inv-loop μ-loop
-returns-3 c =
-    let h = c .before .before .before .before .before .before .before .before .before .before .before .before .before .before in
-    let a = c .before .before .before .before .before .before .before .before .before .before .before .before .before .before .before
-    .before .before .before .before .before .args in
-    let u = c .before .before .before .before .before .before .before .before .before .before .before .before .before .before .before
-    .before .before .before .before .before .pre .1 in
-    let al = h .before .allowance in
-    let r = h .loop .inv in
-    let q = c .before .before .before .before .before .before .perform in
-    running-full (a .capacity) (a .store .now) (a .lengths .now) (a .kinds .now) (a .operands .now) (a .from) (a .steps) (a .budget)
-    (al .result) r u (c .before .before .before .before .before .before .before .before .before .before .before .before
-    .before .loop-test .taken)
-    (c .before .before .before .before .before .before .before .before .before .before .before .before .if1 .left) (al .ensures)
-    (omega (arith, r .done, c .before .before .before .before .before .before .before .before .before .before .before .if2 .left))
-    (λ i k o. subst (λ (x : Step). Performed (a .capacity) (r .registers) (h .loop .here) i x (q .last .0) (q .last .1 .0))
-    (c .enum-told .given .1)
-    (q .ensures (r .registers) i k o (r .held)))
-
-add-k : tie.Need-add-k Inv-loop μ-loop
-add-k c = search needs
-
-loop-less : tie.Need-loop-less Inv-loop μ-loop
-loop-less c = search needs
-
-loop-again : tie.Need-loop-again Inv-loop μ-loop
-loop-again c =
-    let h = c .before .before .before .before .before .before .before .before .before .before .before .before .before .before .before in
-    let a = c .before .before .before .before .before .before .before .before .before .before .before .before .before .before .before
-    .before .before .before .before .before .before .args in
-    let u = c .before .before .before .before .before .before .before .before .before .before .before .before .before .before .before
-    .before .before .before .before .before .before .pre .1 in
-    let al = h .before .allowance in
-    let r = h .loop .inv in
-    let q = c .before .before .before .before .before .before .before .perform in
-    running-step (a .capacity) (a .store .now) (a .lengths .now) (a .kinds .now) (a .operands .now) (a .from) (a .steps) (a .budget)
-    (al .result) r u (c .before .before .before .before .before .before .before .before .before .before .before .before .before
-    .before .loop-test .taken)
-    (c .before .before .before .before .before .before .before .before .before .before .before .before .before .if1 .left) (al .ensures)
-    (omega (
-      arith,
-      r .done,
-      c .before .before .before .before .before .before .before .before .before .before .before .before .if2 .left,
-    ))
-    (c .before .there .given .0 .0)
-    (λ i k o. subst (λ (x : Step). Performed (a .capacity) (r .registers) (h .loop .here) i x (q .last .0) (q .last .1 .0))
-    (c .before .there .given .1)
-    (q .ensures (r .registers) i k o (r .held)))
-    (u .count) (q .kept .0) (q .kept .1 .0)
-
-same-length-7 : tie.Need-same-length-7 Inv-loop μ-loop
-same-length-7 c = search needs
-
-same-length-8 : tie.Need-same-length-8 Inv-loop μ-loop
-same-length-8 c = search needs
-
-returns-4 : tie.Need-returns-4 Inv-loop μ-loop
-returns-4 c =
-    let h = c .before in
-    let a = c .before .before .before .before .before .before .before .args in
-    let u = c .before .before .before .before .before .before .before .pre .1 in
-    let al = h .before .allowance in
-    running-ended (a .capacity) (a .store .now) (a .lengths .now) (a .kinds .now) (a .operands .now) (a .from) (a .steps) (a .budget)
-    (al .result) (h .loop .inv) u Strayed
-    (below-strayed (length (a .kinds .now)) (h .loop .here) (c .loop-test .left))
+    let r = c .before .before .before .before .before .before .before .before .before .before .run-rings .ensures in
+    record {
+      end = r .end;
+      steps = r .steps;
+      place = r .place;
+      held = ring-held (r .held) (c .before .before .put-in-order .ensures);
+      near = r .near;
+    }
 
 pub run-inside-spec : {M : Type 1} → statement M
 run-inside-spec =
     tie.close
     (tie.spec
-    Inv-loop
-    μ-loop
-    add-last
-    allowance-requires
-    loop-holds
-    end-past-requires
+    slice-aggregate-run-rings
+    run-rings-requires
+    slice-aggregate-put-in-order
+    put-in-order-requires
     same-length
     same-length-2
-    returns
-    same-length-3
-    same-length-4
-    returns-2
-    sub-i
-    sub-i-2
-    shared-slice-read-perform
-    mul-perform
-    shared-slice-read-perform-2
-    cast-perform
-    perform-requires
-    enum-known-there
-    enum-told
-    same-length-5
-    same-length-6
-    returns-3
-    add-k
-    loop-less
-    loop-again
-    same-length-7
-    same-length-8
-    returns-4)
+    returns)

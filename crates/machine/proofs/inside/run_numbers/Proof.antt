@@ -11,6 +11,7 @@ use Rattle.theory.specs.Word.{State}
 use Rattle.theory.specs.Machines.{run-word}
 use Rattle.theory.specs.TurnedDown.{instructions}
 use Rattle.word.specs.Answers.{zipped}
+use Rattle.machine.specs.Held.{Held}
 use Rattle.machine.specs.Steps.{bias, number-of}
 use Rattle.machine.specs.Inside.{Stopped, lent, run-from}
 use Rattle.machine.specs.Calls.{memory, position}
@@ -72,13 +73,14 @@ stopped : (c : tie.After-run-inside)
     → let a = c .before .before .before .before .before .before .before .before .before .before .before .args in
     let o = run-word (instructions (zipped (a .kinds .now) (a .operands .now))) (memory (a .m) (a .store .now) (a .lengths .now))
     (position (a .at)) (a .budget) in
-    Stopped (a .m .capacity) o (c .run-inside .result) (c .run-inside .last .0) (c .run-inside .last .1 .0)
+    Stopped (λ f. Held (a .m .capacity) f (c .run-inside .last .0) (c .run-inside .last .1 .0)) o (c .run-inside .result)
 stopped c =
     let a = c .before .before .before .before .before .before .before .before .before .before .before .args in
     let p = c .before .before .before .before .before .before .before .before .before .before .before .pre in
     let n = is (c .before .before .before .before .before) in
     let first : 1 ≤ number-of (a .at .place) = omega (arith, n, c .before .before .before .before .if1 .left) in
-    subst (λ (o : Outcome State). Stopped (a .m .capacity) o (c .run-inside .result) (c .run-inside .last .0) (c .run-inside .last .1 .0))
+    subst
+    (λ (o : Outcome State). Stopped (λ f. Held (a .m .capacity) f (c .run-inside .last .0) (c .run-inside .last .1 .0)) o (c .run-inside .result))
     (ap (λ (k : ℕ). run-from (a .kinds .now) (a .operands .now) (lent (a .m .capacity) (a .store .now) (a .lengths .now)) (bias + k)
     (a .at .steps) (a .budget)) n
     ∙ whole-is (a .m) (a .store .now) (a .lengths .now) (p .0) (a .kinds .now) (a .operands .now) (p .1) (a .at) (a .budget) first)

@@ -1,12 +1,22 @@
--- `append` meets its contract: the byte after the symbols lies in the register's place.
+-- `append` meets its contract: the byte after the symbols of the ring lies in the register's place.
 use Prim.Native.Nat.{_+_, _*_, _<_}
 use native.Mathlib.Omega.{arith}
-use lib.ListN.{length}
-use Rattle.machine.proofs.Places.{place-ends}
-use Rattle.machine.proofs.OneRegister.{held-append, held-full}
+use lib.ListN.{length, getD}
+use Rattle.machine.proofs.Rings.{wrapped-below, ring-inside, ring-append, ring-full}
 use borrow.Author.Needs.{needs}
 use Rattle.machine.proofs.store.append.Statement.{statement}
 use Rattle.machine.proofs.store.append.Tie as tie
+
+inside : (c : tie.After-wrapped)
+    → c .before .before .before .before .before .before .before .before .args .r * c .before .before .before .before .before .before .before .before .args .capacity
+    + c .wrapped .result < length (c .before .before .before .before .before .before .before .before .args .store .now)
+inside c =
+    let a = c .before .before .before .before .before .before .before .before .args in
+    let p = c .before .before .before .before .before .before .before .before .pre in
+    let k = getD (a .starts .now) (a .r) 0 + c .before .before .before .wide .result in
+    let low : c .wrapped .result < a .capacity = rw (c .wrapped .ensures) (wrapped-below (a .capacity) k
+    (omega (arith, p .2 .1 .begins (a .r) (p .1), c .before .before .if1 .taken))) in
+    ring-inside (p .2 .1) (a .r) (p .1) (c .wrapped .result) low
 
 mul-wide : tie.Need-mul-wide
 mul-wide c = search needs
@@ -17,15 +27,17 @@ slice-read-wide c = search needs
 wide-requires : tie.Need-wide-requires
 wide-requires c κs = search needs
 
--- the byte after the register's symbols lies in its place, and that in the store
-inside : (c : tie.Then1)
-    → c .before .before .before .before .before .args .r * c .before .before .before .before .before .args .capacity + c
-    .before .wide .result < length (c .before .before .before .before .before .args .store .now)
-inside c =
-    let a = c .before .before .before .before .before .args in
-    let p = c .before .before .before .before .before .pre in
-    let e = place-ends (a .r) (length (a .lengths .now)) (a .capacity) (p .1) in
-    omega (arith, e, p .0 .room, c .if1 .taken)
+mul-wrapped : tie.Need-mul-wrapped
+mul-wrapped c = search needs
+
+shared-slice-read-wrapped : tie.Need-shared-slice-read-wrapped
+shared-slice-read-wrapped c = omega (arith, c .before .before .before .before .before .before .before .pre .1, c .before .before .before .before .before .before .before .pre .2 .1 .enough)
+
+add-wrapped : tie.Need-add-wrapped
+add-wrapped c = omega (arith, c .before .before .before .before .before .before .before .pre .2 .1 .begins (c .before .before .before .before .before .before .before .args .r) (c .before .before .before .before .before .before .before .pre .1), c .before .before .before .before .before .before .before .pre .0 .symbols, c .before .if1 .taken)
+
+wrapped-requires : tie.Need-wrapped-requires
+wrapped-requires c κs = search needs
 
 mul-store : tie.Need-mul-store
 mul-store c = omega (arith, inside c)
@@ -56,14 +68,12 @@ same-length-2 c = search needs
 
 returns : tie.Need-returns
 returns c f x b h =
-    let a = c .before .before .before .before .before .before .args in
-    let n = c .before .before .wide .ensures in
-    rw (c .narrow .ensures, n, b) (held-append h (a .r) (c .before .before .before .before .before .before .pre .1) x
-    (rw n at (c .before .if1 .taken)))
+    let a = c .before .before .before .before .before .before .before .before .before .args in
+    let n = c .before .before .before .before .wide .ensures in
+    rw (c .narrow .ensures, c .before .wrapped .ensures, n, b) (ring-append h (a .r) (c .before .before .before .before .before .before .before .before .before .pre .1) x (rw n at (c .before .before .before .if1 .taken)))
 
 returns-2 : tie.Need-returns-2
-returns-2 c f x b h = held-full h (c .before .before .before .before .before .args .r)
-    (c .before .before .before .before .before .pre .1) x (rw (c .before .wide .ensures) at (c .if1 .left))
+returns-2 c f x b h = ring-full h (c .before .before .before .before .before .before .args .r) (c .before .before .before .before .before .before .pre .1) x (rw (c .before .wide .ensures) at (c .if1 .left))
 
 pub append-spec : {M : Type 1} → statement M
 append-spec =
@@ -72,6 +82,10 @@ append-spec =
     mul-wide
     slice-read-wide
     wide-requires
+    mul-wrapped
+    shared-slice-read-wrapped
+    add-wrapped
+    wrapped-requires
     mul-store
     add-store
     slice-write-store

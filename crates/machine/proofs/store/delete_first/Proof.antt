@@ -1,13 +1,21 @@
--- `delete_first` meets its contract: the part that is the register's place loses its first symbol.
-use mathlib.Core.Path.{_≡_, sym, ap, _∙_}
-use Prim.Native.Nat.{ℕ, _+_, _-_, _*_, _≤_, _<_}
+-- `delete_first` meets its contract: the first byte of the ring is 0 then, and the ring begins after it.
+use mathlib.Core.Path.{sym, _∙_}
+use Prim.Native.Nat.{_+_, _*_, _<_}
 use native.Mathlib.Omega.{arith}
 use lib.ListN.{length, getD}
-use Rattle.machine.proofs.Places.{place-ends}
-use Rattle.machine.proofs.OneRegister.{held-delete, held-empty, by-symbol-small}
+use Rattle.machine.proofs.Rings.{ring-inside, ring-within, ring-delete, ring-empty}
 use borrow.Author.Needs.{needs}
 use Rattle.machine.proofs.store.delete_first.Statement.{statement}
 use Rattle.machine.proofs.store.delete_first.Tie as tie
+
+inside : (c : tie.After-slice-known5)
+    → c .before .before .before .before .before .before .before .args .r * c .before .before .before .before .before .before .before .args .capacity
+    + getD (c .before .before .before .before .before .before .before .args .starts .now) (c .before .before .before .before .before .before .before .args .r) 0
+    < length (c .before .before .before .before .before .before .before .args .store .now)
+inside c =
+    let a = c .before .before .before .before .before .before .before .args in
+    let p = c .before .before .before .before .before .before .before .pre in
+    ring-inside (p .2 .1) (a .r) (p .1) (getD (a .starts .now) (a .r) 0) (p .2 .1 .begins (a .r) (p .1))
 
 mul-wide : tie.Need-mul-wide
 mul-wide c = search needs
@@ -18,62 +26,44 @@ slice-read-wide c = search needs
 wide-requires : tie.Need-wide-requires
 wide-requires c κs = search needs
 
--- the register's place lies in the store
-ends : (c : tie.After-wide)
-    → c .before .before .before .before .args .r * c .before .before .before .before .args .capacity + c .before .before .before
-    .before .args .capacity ≤ length (c .before .before .before .before .args .store .now)
-ends c =
-    let a = c .before .before .before .before .args in
-    let p = c .before .before .before .before .pre in
-    omega (arith, place-ends (a .r) (length (a .lengths .now)) (a .capacity) (p .1), p .0 .room)
-
-add-result : tie.Need-add-result
-add-result c = search needs
-
 returns : tie.Need-returns
-returns c f h =
-    held-empty h (c .before .before .before .before .before .args .r) (c .before .before .before .before .before .pre .1) (c .before .before .before .before .before .args .here)
-    (sym (c .before .wide .ensures) ∙ c .if1 .taken)
+returns c f h = ring-empty h (c .before .before .before .before .before .before .args .r) (c .before .before .before .before .before .before .pre .1) (sym (c .before .wide .ensures) ∙ c .if1 .taken)
 
-mul-from : tie.Need-mul-from
-mul-from c = omega (arith, ends (c .before))
+mul-start : tie.Need-mul-start
+mul-start c = search needs
 
-add-to : tie.Need-add-to
-add-to c = omega (arith, ends (c .before))
+slice-read-start : tie.Need-slice-read-start
+slice-read-start c = omega (arith, c .before .before .before .before .before .before .before .pre .1, c .before .before .before .before .before .before .before .pre .2 .1 .enough)
 
-slice-read-by-symbol : tie.Need-slice-read-by-symbol
-slice-read-by-symbol c = omega (
-  arith,
-  ends (c .before .before),
-  c .before .before .wide .ensures,
-  c .before .before .before .before .before .before .pre,
-)
+mul-at : tie.Need-mul-at
+mul-at c = omega (arith, inside c)
 
-by-symbol-requires : tie.Need-by-symbol-requires
-by-symbol-requires c κs = search needs
+add-at : tie.Need-add-at
+add-at c = omega (arith, inside c)
 
-add-there : tie.Need-add-there
-add-there c =
-    let a = c .before .before .before .before .before .before .before .args in
-    omega (arith, by-symbol-small (getD (a .store .now) (a .r * a .capacity) 0), c .by-symbol .ensures, c .before .before .before .before .before .before .before .pre .3)
+slice-read-b : tie.Need-slice-read-b
+slice-read-b c = inside (c .before)
 
-sub-drop-first : tie.Need-sub-drop-first
-sub-drop-first c = search needs
+slice-write-store : tie.Need-slice-write-store
+slice-write-store c = inside (c .before)
 
-part-drop-first-start : tie.Need-part-drop-first-start
-part-drop-first-start c = search needs
+add-wrapped : tie.Need-add-wrapped
+add-wrapped c = omega (arith, c .before .before .before .before .before .before .before .before .pre .2 .1 .begins (c .before .before .before .before .before .before .before .before .args .r) (c .before .before .before .before .before .before .before .before .pre .1), c .before .before .before .before .before .before .before .before .pre .0 .symbols)
 
-part-drop-first-end : tie.Need-part-drop-first-end
-part-drop-first-end c = ends (c .before .before .before)
+wrapped-requires : tie.Need-wrapped-requires
+wrapped-requires c κs = search needs
 
-drop-first-requires : tie.Need-drop-first-requires
-drop-first-requires c κs = search needs
+mul-starts : tie.Need-mul-starts
+mul-starts c = search needs
+
+slice-write-starts : tie.Need-slice-write-starts
+slice-write-starts c = omega (arith, c .before .before .before .before .before .before .before .before .before .pre .1, c .before .before .before .before .before .before .before .before .before .pre .2 .1 .enough)
 
 sub-narrow : tie.Need-sub-narrow
 sub-narrow c = search needs
 
 narrow-requires : tie.Need-narrow-requires
-narrow-requires c κs = search needs
+narrow-requires c κs = omega (arith, c .before .before .before .before .wide .ensures, ring-within (c .before .before .before .before .before .before .before .before .before .pre .2 .1) (c .before .before .before .before .before .before .before .before .before .args .r) (c .before .before .before .before .before .before .before .before .before .pre .1), c .before .before .before .before .before .before .before .before .before .pre .0 .symbols)
 
 mul-lengths : tie.Need-mul-lengths
 mul-lengths c = search needs
@@ -87,16 +77,15 @@ same-length c = search needs
 same-length-2 : tie.Need-same-length-2
 same-length-2 c = search needs
 
+same-length-3 : tie.Need-same-length-3
+same-length-3 c = search needs
+
 returns-2 : tie.Need-returns-2
 returns-2 c f h =
-    let a = c .before .before .before .before .before .before .before .before .before .before .before .before .args in
-    let n = c .before .before .before .before .before .before .before .before .wide .ensures in
-    let d : a .r * a .capacity + a .capacity - a .r * a .capacity ≡ a .capacity = omega arith in
-    let some : 0 < getD (a .lengths .now) (a .r) 0 = omega (arith, n, c .before .before .before .before .before .before .before .if1 .left) in
-    rw (d, c .narrow .ensures, n)
-    (held-delete h (a .r) (c .before .before .before .before .before .before .before .before .before .before .before .before .pre .1) (a .here) _
-    (c .before .before .before .drop-first .last .0) some (ap (λ (k : ℕ). a .here + k) (c .before .before .before .before .before .by-symbol .ensures))
-    (rw (d, n) at (c .before .before .before .drop-first .ensures)))
+    let a = c .before .before .before .before .before .before .before .before .before .before .args in
+    let n = c .before .before .before .before .before .wide .ensures in
+    let some : 0 < getD (a .lengths .now) (a .r) 0 = omega (arith, n, c .before .before .before .before .if1 .left) in
+    rw (c .narrow .ensures, c .before .wrapped .ensures, n) (ring-delete h (a .r) (c .before .before .before .before .before .before .before .before .before .before .pre .1) some)
 
 pub delete-first-spec : {M : Type 1} → statement M
 delete-first-spec =
@@ -105,21 +94,22 @@ delete-first-spec =
     mul-wide
     slice-read-wide
     wide-requires
-    add-result
     returns
-    mul-from
-    add-to
-    slice-read-by-symbol
-    by-symbol-requires
-    add-there
-    sub-drop-first
-    part-drop-first-start
-    part-drop-first-end
-    drop-first-requires
+    mul-start
+    slice-read-start
+    mul-at
+    add-at
+    slice-read-b
+    slice-write-store
+    add-wrapped
+    wrapped-requires
+    mul-starts
+    slice-write-starts
     sub-narrow
     narrow-requires
     mul-lengths
     slice-write-lengths
     same-length
     same-length-2
+    same-length-3
     returns-2)
