@@ -30,6 +30,12 @@ struct Stop {
     here: usize,
 }
 
+fn stopped(end: End, steps: u32, here: usize) -> Stop
+    ensures { λ r. ⌜ r ≡ record { end = end; steps = steps; here = here } ⌝ }
+{
+    Stop { end, steps, here }
+}
+
 // How many steps a run may do: the budget, or what its count has left.
 fn allowance(budget: u32, steps: u32) -> u32
     ensures { λ r. ⌜ Allowance budget steps r ⌝ }
@@ -75,18 +81,10 @@ fn run_rings(
     let mut k: u32 = 0;
     while BIAS < here {
         if last < here {
-            return Stop {
-                end: end_past(here, last),
-                steps: k,
-                here,
-            };
+            return stopped(end_past(here, last), k, here);
         }
         if k == allowed {
-            return Stop {
-                end: End::Spent,
-                steps: k,
-                here,
-            };
+            return stopped(End::Spent, k, here);
         }
         let i = here - BIAS - 1;
         match perform(
@@ -101,21 +99,11 @@ fn run_rings(
             Step::To(there) => {
                 here = there;
             }
-            Step::Full => {
-                return Stop {
-                    end: End::Full,
-                    steps: k,
-                    here,
-                };
-            }
+            Step::Full => return stopped(End::Full, k, here),
         }
         k += 1;
     }
-    Stop {
-        end: End::Strayed,
-        steps: k,
-        here,
-    }
+    stopped(End::Strayed, k, here)
 }
 
 // The same run; the registers are put in order at its end.

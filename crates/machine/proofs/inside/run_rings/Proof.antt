@@ -31,14 +31,15 @@ allowance-requires c κs = search needs
 loop-holds : tie.Need-loop-holds Inv-loop μ-loop
 loop-holds c =
     let a = c .before .before .before .before .before .before .args in
-    let p = c .before .before .before .before .before .before .pre in (
-      running-start (a .capacity) (a .store .now) (a .lengths .now) (a .kinds .now) (a .operands .now) (a .from) (a .steps) (a .budget)
-          (c .allowance .result) (a .starts .now) (p .0) (p .1) (omega (arith, p .3, p .2 .count)),
-      refl,
-    )
+    let p = c .before .before .before .before .before .before .pre in
+    (running-start (a .capacity) (a .store .now) (a .lengths .now) (a .kinds .now) (a .operands .now) (a .from) (a .steps) (a .budget)
+    (c .allowance .result) (a .starts .now) (p .0) (p .1) (omega (arith, p .3, p .2 .count)), refl)
 
 end-past-requires : tie.Need-end-past-requires Inv-loop μ-loop
 end-past-requires c κs = search needs
+
+stopped-requires : tie.Need-stopped-requires Inv-loop μ-loop
+stopped-requires c κs = search needs
 
 same-length : tie.Need-same-length Inv-loop μ-loop
 same-length c = search needs
@@ -51,13 +52,18 @@ same-length-3 c = search needs
 
 returns : tie.Need-returns Inv-loop μ-loop
 returns c =
-    let h = c .before .before .before in
-    let a = c .before .before .before .before .before .before .before .before .before .before .args in
-    let u = c .before .before .before .before .before .before .before .before .before .before .pre .2 in
-    let al = c .before .before .before .before .allowance in
+    let h = c .before .before .before .before in
+    let a = c .before .before .before .before .before .before .before .before .before .before .before .args in
+    let u = c .before .before .before .before .before .before .before .before .before .before .before .pre .2 in
+    let al = c .before .before .before .before .before .allowance in
     let past = past-ended (length (a .kinds .now)) (h .loop .here) (search needs) in
-    running-ended (a .capacity) (a .store .now) (a .lengths .now) (a .kinds .now) (a .operands .now) (a .from) (a .steps) (a .budget)
-    (al .result) (h .loop .inv .0) u (c .end-past .result) (past ∙ ap {B = Option End} some (sym (c .end-past .ensures)))
+    rw (c .stopped .ensures)
+    (running-ended (a .capacity) (a .store .now) (a .lengths .now) (a .kinds .now) (a .operands .now) (a .from) (a .steps) (a .budget)
+    (al .result) (h .loop .inv .0) u (c .before .end-past .result)
+    (past ∙ ap {B = Option End} some (sym (c .before .end-past .ensures))))
+
+stopped-requires-2 : tie.Need-stopped-requires-2 Inv-loop μ-loop
+stopped-requires-2 c κs = search needs
 
 same-length-4 : tie.Need-same-length-4 Inv-loop μ-loop
 same-length-4 c = search needs
@@ -70,12 +76,13 @@ same-length-6 c = search needs
 
 returns-2 : tie.Need-returns-2 Inv-loop μ-loop
 returns-2 c =
-    let h = c .before .before .before in
-    let a = c .before .before .before .before .before .before .before .before .before .before .args in
-    let u = c .before .before .before .before .before .before .before .before .before .before .pre .2 in
-    let al = c .before .before .before .before .allowance in
-    running-spent (a .capacity) (a .store .now) (a .lengths .now) (a .kinds .now) (a .operands .now) (a .from) (a .steps) (a .budget)
-    (al .result) (h .loop .inv .0) u (search needs) (search needs) (al .ensures) (c .if2 .taken)
+    let h = c .before .before .before .before in
+    let a = c .before .before .before .before .before .before .before .before .before .before .before .args in
+    let u = c .before .before .before .before .before .before .before .before .before .before .before .pre .2 in
+    let al = c .before .before .before .before .before .allowance in
+    rw (c .stopped2 .ensures)
+    (running-spent (a .capacity) (a .store .now) (a .lengths .now) (a .kinds .now) (a .operands .now) (a .from) (a .steps) (a .budget)
+    (al .result) (h .loop .inv .0) u (search needs) (search needs) (al .ensures) (c .before .if2 .taken))
 
 sub-i : tie.Need-sub-i Inv-loop μ-loop
 sub-i c = search needs
@@ -118,6 +125,9 @@ enum-known-there c = search needs
 enum-told : tie.Need-enum-told Inv-loop μ-loop
 enum-told c = search needs
 
+stopped-requires-3 : tie.Need-stopped-requires-3 Inv-loop μ-loop
+stopped-requires-3 c κs = search needs
+
 same-length-7 : tie.Need-same-length-7 Inv-loop μ-loop
 same-length-7 c = search needs
 
@@ -129,19 +139,20 @@ same-length-9 c = search needs
 
 returns-3 : tie.Need-returns-3 Inv-loop μ-loop
 returns-3 c =
-    let h = c .before .before .before .before .before .before .before .before .before .before .before .before .before .before .before .before .before in
-    let a = c .before .before .before .before .before .before .before .before .before .before .before .before .before .before .before .before .before .before .before .before .before .before .before .before .args in
-    let u = c .before .before .before .before .before .before .before .before .before .before .before .before .before .before .before .before .before .before .before .before .before .before .before .before .pre .2 in
-    let al = c .before .before .before .before .before .before .before .before .before .before .before .before .before .before .before .before .before .before .allowance in
+    let h = c .before .before .before .before .before .before .before .before .before .before .before .before .before .before .before .before .before .before in
+    let a = c .before .before .before .before .before .before .before .before .before .before .before .before .before .before .before .before .before .before .before .before .before .before .before .before .before .args in
+    let u = c .before .before .before .before .before .before .before .before .before .before .before .before .before .before .before .before .before .before .before .before .before .before .before .before .before .pre .2 in
+    let al = c .before .before .before .before .before .before .before .before .before .before .before .before .before .before .before .before .before .before .before .allowance in
     let r = h .loop .inv .0 in
-    let q = c .before .before .before .before .before .before .before .before .perform in
-    running-full (a .capacity) (a .store .now) (a .lengths .now) (a .kinds .now) (a .operands .now) (a .from) (a .steps) (a .budget)
-    (al .result) r u (c .before .before .before .before .before .before .before .before .before .before .before .before .before .before .before .before .loop-test .taken) (c .before .before .before .before .before .before .before .before .before .before .before .before .before .before .before .if1 .left) (al .ensures)
-    (omega (arith, r .done, c .before .before .before .before .before .before .before .before .before .before .before .before .before .before .if2 .left))
+    let q = c .before .before .before .before .before .before .before .before .before .perform in
+    rw (c .stopped3 .ensures)
+    (running-full (a .capacity) (a .store .now) (a .lengths .now) (a .kinds .now) (a .operands .now) (a .from) (a .steps) (a .budget)
+    (al .result) r u (c .before .before .before .before .before .before .before .before .before .before .before .before .before .before .before .before .before .loop-test .taken) (c .before .before .before .before .before .before .before .before .before .before .before .before .before .before .before .before .if1 .left) (al .ensures)
+    (omega (arith, r .done, c .before .before .before .before .before .before .before .before .before .before .before .before .before .before .before .if2 .left))
     (λ i k o. subst
     (λ (x : Step). Performed (a .capacity) (r .registers) (h .loop .here) i x (q .last .0) (q .last .1 .0) (q .last .1 .1 .0))
-    (c .enum-told .given .1)
-    (q .ensures (r .registers) i k o (r .held)))
+    (c .before .enum-told .given .1)
+    (q .ensures (r .registers) i k o (r .held))))
 
 add-k : tie.Need-add-k Inv-loop μ-loop
 add-k c = search needs
@@ -156,18 +167,19 @@ loop-again c =
     let u = c .before .before .before .before .before .before .before .before .before .before .before .before .before .before .before .before .before .before .before .before .before .before .before .before .before .pre .2 in
     let al = c .before .before .before .before .before .before .before .before .before .before .before .before .before .before .before .before .before .before .before .allowance in
     let r = h .loop .inv .0 in
-    let q = c .before .before .before .before .before .before .before .before .before .perform in (
-      running-step (a .capacity) (a .store .now) (a .lengths .now) (a .kinds .now) (a .operands .now) (a .from) (a .steps) (a .budget)
-          (al .result) r u (c .before .before .before .before .before .before .before .before .before .before .before .before .before .before .before .before .before .loop-test .taken) (c .before .before .before .before .before .before .before .before .before .before .before .before .before .before .before .before .if1 .left) (al .ensures)
-          (omega (arith, r .done, c .before .before .before .before .before .before .before .before .before .before .before .before .before .before .before .if2 .left))
-          (c .before .there .given .0 .0)
-          (λ i k o. subst
-          (λ (x : Step). Performed (a .capacity) (r .registers) (h .loop .here) i x (q .last .0) (q .last .1 .0) (q .last .1 .1 .0))
-          (c .before .there .given .1)
-          (q .ensures (r .registers) i k o (r .held)))
-          (u .count) (q .kept .0) (q .kept .1 .0),
-      q .kept .1 .1 .0 ∙ h .loop .inv .1,
-    )
+    let q = c .before .before .before .before .before .before .before .before .before .perform in
+    (running-step (a .capacity) (a .store .now) (a .lengths .now) (a .kinds .now) (a .operands .now) (a .from) (a .steps) (a .budget)
+    (al .result) r u (c .before .before .before .before .before .before .before .before .before .before .before .before .before .before .before .before .before .loop-test .taken) (c .before .before .before .before .before .before .before .before .before .before .before .before .before .before .before .before .if1 .left) (al .ensures)
+    (omega (arith, r .done, c .before .before .before .before .before .before .before .before .before .before .before .before .before .before .before .if2 .left))
+    (c .before .there .given .0 .0)
+    (λ i k o. subst
+    (λ (x : Step). Performed (a .capacity) (r .registers) (h .loop .here) i x (q .last .0) (q .last .1 .0) (q .last .1 .1 .0))
+    (c .before .there .given .1)
+    (q .ensures (r .registers) i k o (r .held)))
+    (u .count) (q .kept .0) (q .kept .1 .0), q .kept .1 .1 .0 ∙ h .loop .inv .1)
+
+stopped-requires-4 : tie.Need-stopped-requires-4 Inv-loop μ-loop
+stopped-requires-4 c κs = search needs
 
 same-length-10 : tie.Need-same-length-10 Inv-loop μ-loop
 same-length-10 c = search needs
@@ -180,12 +192,14 @@ same-length-12 c = search needs
 
 returns-4 : tie.Need-returns-4 Inv-loop μ-loop
 returns-4 c =
-    let h = c .before in
-    let a = c .before .before .before .before .before .before .before .before .args in
-    let u = c .before .before .before .before .before .before .before .before .pre .2 in
-    let al = c .before .before .allowance in
-    running-ended (a .capacity) (a .store .now) (a .lengths .now) (a .kinds .now) (a .operands .now) (a .from) (a .steps) (a .budget)
-    (al .result) (h .loop .inv .0) u Strayed (below-strayed (length (a .kinds .now)) (h .loop .here) (c .loop-test .left))
+    let h = c .before .before in
+    let a = c .before .before .before .before .before .before .before .before .before .args in
+    let u = c .before .before .before .before .before .before .before .before .before .pre .2 in
+    let al = c .before .before .before .allowance in
+    rw (c .stopped4 .ensures)
+    (running-ended (a .capacity) (a .store .now) (a .lengths .now) (a .kinds .now) (a .operands .now) (a .from) (a .steps) (a .budget)
+    (al .result) (h .loop .inv .0) u Strayed
+    (below-strayed (length (a .kinds .now)) (h .loop .here) (c .before .loop-test .left)))
 
 pub run-rings-spec : {M : Type 1} → statement M
 run-rings-spec =
@@ -197,10 +211,12 @@ run-rings-spec =
     allowance-requires
     loop-holds
     end-past-requires
+    stopped-requires
     same-length
     same-length-2
     same-length-3
     returns
+    stopped-requires-2
     same-length-4
     same-length-5
     same-length-6
@@ -214,6 +230,7 @@ run-rings-spec =
     perform-requires
     enum-known-there
     enum-told
+    stopped-requires-3
     same-length-7
     same-length-8
     same-length-9
@@ -221,6 +238,7 @@ run-rings-spec =
     add-k
     loop-less
     loop-again
+    stopped-requires-4
     same-length-10
     same-length-11
     same-length-12
