@@ -19,14 +19,7 @@ pub struct Machine {
 impl Machine {
     /// Place 1, no steps, and registers that begin with these contents, the others empty.
     pub fn fresh(registers: usize, capacity: usize, contents: &[Vec<u8>]) -> Machine {
-        let mut machine = Machine {
-            registers,
-            capacity,
-            store: vec![0; registers * capacity],
-            lengths: vec![0; registers],
-            place: 1,
-            steps: 0,
-        };
+        let mut machine = Machine { registers, capacity, store: vec![0; registers * capacity], lengths: vec![0; registers], place: 1, steps: 0 };
         for (at, symbols) in contents.iter().enumerate() {
             machine.store[at * capacity..at * capacity + symbols.len()].copy_from_slice(symbols);
             machine.lengths[at] = symbols.len() as u16;
@@ -47,9 +40,7 @@ impl Machine {
             && self.lengths.len() == self.registers;
         let laid = |(place, &length): (&[u8], &u16)| {
             let length = usize::from(length);
-            length <= self.capacity
-                && place[..length].iter().all(|b| matches!(b, b'1' | b'#'))
-                && place[length..].iter().all(|&b| b == 0)
+            length <= self.capacity && place[..length].iter().all(|b| matches!(b, b'1' | b'#')) && place[length..].iter().all(|&b| b == 0)
         };
         if sizes && self.store.chunks(self.capacity).zip(&self.lengths).all(laid) {
             Ok(())

@@ -92,7 +92,7 @@ fn source(text: &'static [u8], values: &[u32], name: &'static str) -> Row {
     row(
         name,
         &mut || {
-            let mut state = fresh.clone();
+            let mut state = fresh.numbers();
             black_box(library::run_source(text, &mut state, 100_000));
         },
         &mut || {
@@ -127,7 +127,8 @@ fn moving(length: usize, name: &'static str) -> Row {
 /// Bars of the ratios, with a line at 1.
 fn picture(rows: &[Row]) -> String {
     let height = 40 + 26 * rows.len();
-    let mut svg = format!("<svg xmlns=\"http://www.w3.org/2000/svg\" width=\"640\" height=\"{height}\" font-family=\"sans-serif\" font-size=\"13\">\n");
+    let mut svg =
+        format!("<svg xmlns=\"http://www.w3.org/2000/svg\" width=\"640\" height=\"{height}\" font-family=\"sans-serif\" font-size=\"13\">\n");
     let _ = writeln!(svg, "<rect width=\"640\" height=\"{height}\" fill=\"white\"/>");
     let _ = writeln!(svg, "<text x=\"230\" y=\"18\">time of the library, the twin's = 1 (shorter is faster)</text>");
     for (at, row) in rows.iter().enumerate() {
