@@ -8,14 +8,25 @@ use crate::source::{self, State};
 use crate::translation::translate;
 use crate::word::{self, spell, Instruction};
 use crate::{refuse, tool, Answer, Refusal};
+use std::fmt;
+use std::iter::successors;
 
 /// What lent outputs are filled with, to see what of them was written.
 const FILL: u8 = 0xa5;
 
-#[derive(Clone, Debug)]
+#[derive(Clone)]
 pub enum Program {
     Text(Vec<u8>),
     List(Vec<u8>),
+}
+
+impl fmt::Debug for Program {
+    fn fmt(&self, f: &mut fmt::Formatter) -> fmt::Result {
+        match self {
+            Program::Text(text) => write!(f, "\"{}\"", text.escape_ascii()),
+            Program::List(list) => list.fmt(f),
+        }
+    }
 }
 
 impl Program {
@@ -34,16 +45,16 @@ impl Program {
         }
     }
 
-    fn shorter(&self) -> Vec<Program> {
+    fn shorter(&self) -> Box<dyn Iterator<Item = Program> + '_> {
         match self {
-            Program::Text(text) => shorter(text).into_iter().map(Program::Text).collect(),
-            Program::List(list) => shorter(list).into_iter().map(Program::List).collect(),
+            Program::Text(text) => Box::new(shorter(text).map(Program::Text)),
+            Program::List(list) => Box::new(shorter(list).map(Program::List)),
         }
     }
 }
 
 /// A call. `lent`, and the two lengths of a word's reading, are the elements of the output. A text is converted to a list, and a list to a text.
-#[derive(Clone, Debug)]
+#[derive(Clone)]
 pub enum Case {
     Convert { program: Program, lent: usize },
     Translate { program: Program, lent: usize },
@@ -52,6 +63,19 @@ pub enum Case {
     WriteWord { kinds: Vec<u8>, operands: Vec<u32>, lent: usize },
     RunWord { word: Vec<u8>, machine: Machine, budget: u32 },
     Report { text: Vec<u8>, sheet: Vec<u8> },
+}
+
+impl fmt::Debug for Case {
+    fn fmt(&self, f: &mut fmt::Formatter) -> fmt::Result {
+        match self {
+            Case::Convert { program, lent } | Case::Translate { program, lent } => write!(f, "{program:?}, lent {lent}"),
+            Case::RunSource { program, state, budget } => write!(f, "{program:?}, state {state:?}, budget {budget}"),
+            Case::ReadWord { word, kinds, operands } => write!(f, "\"{}\", lent {kinds} and {operands}", word.escape_ascii()),
+            Case::WriteWord { kinds, operands, lent } => write!(f, "kinds {kinds:?}, operands {operands:?}, lent {lent}"),
+            Case::RunWord { word, machine, budget } => write!(f, "\"{}\", {machine:?}, budget {budget}", word.escape_ascii()),
+            Case::Report { text, sheet } => write!(f, "\"{}\", sheet \"{}\"", text.escape_ascii(), sheet.escape_ascii()),
+        }
+    }
 }
 
 /// The answer, and all lent memory as it is after the call; for the run tool, what it printed.
@@ -221,59 +245,48 @@ impl Case {
     }
 
     /// Cases with a little less in them.
-    pub fn smaller(&self) -> Vec<Case> {
-        let mut found = Vec::new();
+    pub fn smaller(&self) -> Box<dyn Iterator<Item = Case> + '_> {
         match self {
             Case::Convert { program, lent } => {
-                found.extend(program.shorter().into_iter().map(|program| Case::Convert { program, lent: *lent }));
-                found.extend(less(*lent).map(|lent| Case::Convert { program: program.clone(), lent }));
+                let programs = program.shorter().map(|program| Case::Convert { program, lent: *lent });
+                Box::new(programs.chain(less(*lent).map(|lent| Case::Convert { program: program.clone(), lent })))
             }
             Case::Translate { program, lent } => {
-                found.extend(program.shorter().into_iter().map(|program| Case::Translate { program, lent: *lent }));
-                found.extend(less(*lent).map(|lent| Case::Translate { program: program.clone(), lent }));
+                let programs = program.shorter().map(|program| Case::Translate { program, lent: *lent });
+                Box::new(programs.chain(less(*lent).map(|lent| Case::Translate { program: program.clone(), lent })))
             }
             Case::RunSource { program, state, budget } => {
-                let with = |program: &Program, state: &[u32], budget| Case::RunSource { program: program.clone(), state: state.to_vec(), budget };
-                found.extend(program.shorter().iter().map(|p| with(p, state, *budget)));
-                found.extend(lower(state).iter().map(|s| with(program, s, *budget)));
-                found.extend(less(*budget as usize).map(|b| with(program, state, b as u32)));
+                let programs = program.shorter().map(|program| Case::RunSource { program, state: state.clone(), budget: *budget });
+                let states = lower(state).map(|state| Case::RunSource { program: program.clone(), state, budget: *budget });
+                let budgets = less(*budget as usize).map(|b| Case::RunSource { program: program.clone(), state: state.clone(), budget: b as u32 });
+                Box::new(programs.chain(states).chain(budgets))
             }
             Case::ReadWord { word, kinds, operands } => {
-                found.extend(shorter(word).into_iter().map(|word| Case::ReadWord { word, kinds: *kinds, operands: *operands }));
-                found.extend(less(*kinds).map(|kinds| Case::ReadWord { word: word.clone(), kinds, operands: *operands }));
+                let words = shorter(word).map(|word| Case::ReadWord { word, kinds: *kinds, operands: *operands });
+                Box::new(words.chain(less(*kinds).map(|kinds| Case::ReadWord { word: word.clone(), kinds, operands: *operands })))
             }
             Case::WriteWord { kinds, operands, lent } => {
-                let with = |kinds: &[u8], operands: &[u32], lent| Case::WriteWord { kinds: kinds.to_vec(), operands: operands.to_vec(), lent };
-                found.extend(shorter(kinds).iter().zip(shorter(operands)).map(|(k, o)| with(k, &o, *lent)));
-                found.extend(lower(operands).iter().map(|o| with(kinds, o, *lent)));
-                found.extend(less(*lent).map(|lent| with(kinds, operands, lent)));
+                let tables = shorter(kinds).zip(shorter(operands)).map(|(kinds, operands)| Case::WriteWord { kinds, operands, lent: *lent });
+                Box::new(tables.chain(lower(operands).map(|operands| Case::WriteWord { kinds: kinds.clone(), operands, lent: *lent })))
             }
             Case::RunWord { word, machine, budget } => {
-                let with = |word: &[u8], machine: &Machine, budget| Case::RunWord { word: word.to_vec(), machine: machine.clone(), budget };
-                found.extend(shorter(word).iter().map(|w| with(w, machine, *budget)));
-                found.extend(emptier(machine).iter().map(|m| with(word, m, *budget)));
-                found.extend(less(*budget as usize).map(|b| with(word, machine, b as u32)));
+                let words = shorter(word).map(|word| Case::RunWord { word, machine: machine.clone(), budget: *budget });
+                let machines = emptier(machine).into_iter().map(|machine| Case::RunWord { word: word.clone(), machine, budget: *budget });
+                let budgets = less(*budget as usize).map(|b| Case::RunWord { word: word.clone(), machine: machine.clone(), budget: b as u32 });
+                Box::new(words.chain(machines).chain(budgets))
             }
             Case::Report { text, sheet } => {
-                found.extend(shorter(text).into_iter().map(|text| Case::Report { text, sheet: sheet.clone() }));
-                found.extend(shorter(sheet).into_iter().map(|sheet| Case::Report { text: text.clone(), sheet }));
+                let texts = shorter(text).map(|text| Case::Report { text, sheet: sheet.clone() });
+                Box::new(texts.chain(shorter(sheet).map(|sheet| Case::Report { text: text.clone(), sheet })))
             }
         }
-        found
     }
 }
 
 /// What is left when one piece is cut out, largest pieces first.
-fn shorter<T: Clone>(items: &[T]) -> Vec<Vec<T>> {
-    let mut found = Vec::new();
-    let mut piece = items.len();
-    while piece > 0 {
-        for at in (0..items.len()).step_by(piece) {
-            found.push([&items[..at], &items[(at + piece).min(items.len())..]].concat());
-        }
-        piece /= 2;
-    }
-    found
+fn shorter<T: Clone>(items: &[T]) -> impl Iterator<Item = Vec<T>> + '_ {
+    let pieces = successors(Some(items.len()), |n| Some(n / 2)).take_while(|&n| n > 0);
+    pieces.flat_map(move |piece| (0..items.len()).step_by(piece).map(move |at| [&items[..at], &items[(at + piece).min(items.len())..]].concat()))
 }
 
 fn less(n: usize) -> impl Iterator<Item = usize> {
@@ -281,30 +294,32 @@ fn less(n: usize) -> impl Iterator<Item = usize> {
 }
 
 /// One of the numbers lowered.
-fn lower(numbers: &[u32]) -> Vec<Vec<u32>> {
-    let one = |at: usize| {
-        less(numbers[at] as usize).map(move |n| {
-            let mut lowered = numbers.to_vec();
-            lowered[at] = n as u32;
-            lowered
-        })
-    };
-    (0..numbers.len()).flat_map(one).collect()
+fn lower(numbers: &[u32]) -> impl Iterator<Item = Vec<u32>> + '_ {
+    let with = |at: usize, n: usize| [&numbers[..at], &[n as u32], &numbers[at + 1..]].concat();
+    (0..numbers.len()).flat_map(move |at| less(numbers[at] as usize).map(move |n| with(at, n)))
 }
 
-/// A register emptied, fewer steps, or the first place.
+/// Fewer steps, the first place, a register emptied, the last register gone.
 fn emptier(machine: &Machine) -> Vec<Machine> {
     let mut found: Vec<Machine> = less(machine.steps as usize).map(|n| Machine { steps: n as u32, ..machine.clone() }).collect();
     if machine.place != 1 {
         found.push(Machine { place: 1, ..machine.clone() });
     }
-    for (at, &length) in machine.lengths.iter().enumerate() {
-        if length > 0 && (at + 1) * machine.capacity <= machine.store.len() {
-            let mut emptied = machine.clone();
-            emptied.lengths[at] = 0;
-            emptied.store[at * machine.capacity..(at + 1) * machine.capacity].fill(0);
-            found.push(emptied);
-        }
+    if machine.store.len() != machine.registers * machine.capacity || machine.lengths.len() != machine.registers {
+        return found;
+    }
+    for at in (0..machine.registers).filter(|&at| machine.lengths[at] > 0) {
+        let mut emptied = machine.clone();
+        emptied.lengths[at] = 0;
+        emptied.store[at * machine.capacity..(at + 1) * machine.capacity].fill(0);
+        found.push(emptied);
+    }
+    if machine.registers > 1 {
+        let mut fewer = machine.clone();
+        fewer.registers -= 1;
+        fewer.lengths.truncate(fewer.registers);
+        fewer.store.truncate(fewer.registers * fewer.capacity);
+        found.push(fewer);
     }
     found
 }

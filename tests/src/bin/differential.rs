@@ -4,6 +4,7 @@
 use std::collections::BTreeMap;
 use std::env;
 use std::process::exit;
+use std::time::{Duration, Instant};
 use twin::cases::{Case, Program};
 use twin::library::RunTool;
 use twin::machine::Machine;
@@ -44,7 +45,11 @@ impl Tally {
         let (twin, library) = (case.twin(), case.library(&self.tool));
         if twin != library {
             let case = self.smallest(case);
-            println!("{}: they differ on {case:?}\n  twin    {:?}\n  library {:?}", case.name(), case.twin(), case.library(&self.tool));
+            let (twin, library) = (case.twin(), case.library(&self.tool));
+            println!("{}: they differ on {case:?}\n  twin    {:?}\n  library {:?}", case.name(), twin.answer, library.answer);
+            if let Some(at) = (0..twin.memory.len()).find(|&at| twin.memory.get(at) != library.memory.get(at)) {
+                println!("  in memory first at {at}: twin {:?}, library {:?}", twin.memory.get(at), library.memory.get(at));
+            }
             exit(1);
         }
         let answer = match twin.answer {
@@ -57,10 +62,15 @@ impl Tally {
     }
 
     fn smallest(&self, mut case: Case) -> Case {
-        while let Some(next) = case.smaller().into_iter().find(|c| c.twin() != c.library(&self.tool)) {
-            case = next;
+        let until = Instant::now() + Duration::from_secs(20);
+        let differs = |c: &Case| c.twin() != c.library(&self.tool);
+        loop {
+            let found = case.smaller().take_while(|_| Instant::now() < until).find(differs);
+            match found {
+                Some(smaller) => case = smaller,
+                None => return case,
+            }
         }
-        case
     }
 
     /// The counts; false if an answer came too seldom.
