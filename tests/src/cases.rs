@@ -153,8 +153,7 @@ fn read_word(word: &[u8], kinds: usize, operands: usize) -> Outcome {
 
 fn run_word(word: &[u8], from: &Machine, budget: u32) -> Outcome {
     let mut machine = from.clone();
-    let table = machine.check().and_then(|()| word::read(word)).and_then(|t| machine.check_registers(&t, false).map(|()| t));
-    let answer = match table {
+    let answer = match machine.accept(word) {
         Err(r) => Answer::Refused(r),
         Ok(table) => {
             let (end, steps) = machine.run(&table, budget);

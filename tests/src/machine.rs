@@ -1,6 +1,6 @@
 //! The text register machine on the set's layout of store and lengths.
 
-use crate::word::{lacking, offset, Instruction};
+use crate::word::{self, lacking, offset, Instruction};
 use crate::{refuse, End, Refusal};
 
 pub const REGISTERS: usize = 64;
@@ -49,12 +49,13 @@ impl Machine {
         }
     }
 
-    /// Rule 15; places are byte offsets of the word, or entries of a table.
-    pub fn check_registers(&self, table: &[Instruction], entries: bool) -> Result<(), Refusal> {
-        match lacking(table, self.registers) {
-            Some(entry) if entries => refuse(15, entry),
-            Some(entry) => refuse(15, offset(table, entry)),
-            None => Ok(()),
+    /// The instructions of a word that is to be run here, by rules 10 to 15.
+    pub fn accept(&self, word: &[u8]) -> Result<Vec<Instruction>, Refusal> {
+        self.check()?;
+        let table = word::read(word)?;
+        match lacking(&table, self.registers) {
+            Some(entry) => refuse(15, offset(&table, entry)),
+            None => Ok(table),
         }
     }
 

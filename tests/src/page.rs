@@ -128,7 +128,12 @@ impl Example {
                 cases
             }
             "list" => of_program(Program::List(numbers.iter().map(|&n| n as u8).collect()), fresh),
-            "source" => vec![Case::RunSource { program: Program::Text(text()), state: self.state().numbers().to_vec(), budget: 1 }],
+            "source" => {
+                let program = Program::Text(text());
+                let list = Program::List(program.converted().expect("an accepted program"));
+                let run = |program: Program| Case::RunSource { program, state: self.state().numbers().to_vec(), budget: 1 };
+                vec![run(program), run(list)]
+            }
             "memory" => vec![Case::RunWord { word: b"1###".to_vec(), machine: self.machine(), budget: 1 }],
             "word" => vec![
                 Case::ReadWord { word: text(), kinds: 8_192, operands: 8_192 },

@@ -205,8 +205,7 @@ fn source_case(random: &mut Random, program: Program) -> Case {
 /// The same for a word.
 fn word_case(random: &mut Random, word: Vec<u8>, mut machine: Machine) -> Case {
     let mut budget = random.below(3000) as u32;
-    let checked = machine.check().and_then(|()| word::read(&word)).and_then(|t| machine.check_registers(&t, false).map(|()| t));
-    if let Ok(table) = checked {
+    if let Ok(table) = machine.accept(&word) {
         let (end, ended) = machine.clone().run(&table, LONGEST);
         let done = if random.once_in(2) { random.below(ended as usize + 1) as u32 } else { 0 };
         machine.run(&table, done);

@@ -118,9 +118,7 @@ pub fn running_word(name: &str, size: usize, text: &[u8], fresh: &Machine) -> Ro
         },
         &mut || {
             let mut machine = fresh.clone();
-            machine.check().expect("a good machine");
-            let table = word::read(black_box(text)).expect("a good word");
-            machine.check_registers(&table, false).expect("no register is lacking");
+            let table = machine.accept(black_box(text)).expect("a good machine and word");
             black_box(machine.run(&table, 100_000));
         },
     )
