@@ -348,3 +348,16 @@ pub fn sheets() -> Vec<Vec<u8>> {
     }
     found
 }
+
+/// Programs and sheets for the run tool: a source that halts after exactly its budget of steps, and one step later; then a word so.
+pub fn budgets() -> [(String, &'static str); 4] {
+    let passes = "loop X1\nloop X2\nendloop X2\nendloop X1\n";
+    let of_source = "X1 X2\n369 269\n";
+    let of_word = "X1 X2 X3\n369 299 738\n";
+    [
+        (passes.into(), of_source),
+        (format!("{passes}X0 <- X0 + 1\n"), of_source),
+        (format!("{passes}X3 <- 0\nX0 <- X0 + 1\n"), of_word),
+        (format!("{passes}X3 <- 0\nX0 <- X0 + 1\nX0 <- X0 + 1\n"), of_word),
+    ]
+}

@@ -166,6 +166,9 @@ fn at_limits(tally: &mut Tally) {
             tally.hold(Case::Report { text: text.to_vec(), sheet: sheet.clone() });
         }
     }
+    for (text, sheet) in edges::budgets() {
+        tally.hold(Case::Report { text: text.into(), sheet: sheet.into() });
+    }
     for commands in edges::long_words() {
         for sheet in ["\n", "X31 X30\n1024 1024\n", "X32\n", "X31\n1025\n", ""] {
             tally.hold(Case::Report { text: write(&commands), sheet: sheet.into() });
