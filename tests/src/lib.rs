@@ -1,5 +1,7 @@
 //! The twin: document 01 implemented once more, from the document alone, in plain Rust. The library is held against it.
 
+pub mod cases;
+pub mod edges;
 #[cfg(feature = "library")]
 pub mod library;
 pub mod machine;
@@ -41,4 +43,12 @@ impl End {
             End::Full => "full",
         }
     }
+}
+
+/// What comes of a call: its two counts, or how a run ended and its steps, or a refusal.
+#[derive(Clone, Copy, PartialEq, Eq, Debug)]
+pub enum Answer {
+    Done { high: u32, low: u32 },
+    Ended(End, u32),
+    Refused(Refusal),
 }

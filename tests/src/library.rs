@@ -1,8 +1,10 @@
-//! The library's C entries, as safe functions that answer in the twin's types. The declarations are those of `include/mudzkvopi.h`.
+//! The library's C entries, as safe functions that answer in the twin's types, and the run tool. The declarations are those of `include/mudzkvopi.h`.
 
 use crate::machine::Machine;
-use crate::source::State;
-use crate::{End, Refusal};
+use crate::{Answer, End, Refusal};
+use std::path::PathBuf;
+use std::process::Command;
+use std::{env, fs, process};
 
 extern "C" {
     fn mudzkvopi_read_program(text: *const u8, text_len: usize, list: *mut u8, list_len: usize) -> u64;
@@ -26,14 +28,6 @@ extern "C" {
         word_len: usize,
         budget: u32,
     ) -> u64;
-}
-
-/// A result unpacked: two counts, or how a run ended and its steps, or a refusal.
-#[derive(Clone, Copy, PartialEq, Eq, Debug)]
-pub enum Answer {
-    Done { high: u32, low: u32 },
-    Ended(End, u32),
-    Refused(Refusal),
 }
 
 fn unpack(packed: u64) -> Answer {
@@ -67,37 +61,12 @@ pub fn translate_list(list: &[u8], word: &mut [u8]) -> Answer {
     unpack(unsafe { mudzkvopi_translate_list(list.as_ptr(), list.len(), word.as_mut_ptr(), word.len()) })
 }
 
-/// A source state as the entries have it: capacity, line, steps, 32 values, 16 passes-left.
-pub fn numbers(state: &State) -> [u32; 51] {
-    let mut numbers = [0; 51];
-    numbers[..3].copy_from_slice(&[state.capacity, state.line, state.steps]);
-    numbers[3..35].copy_from_slice(&state.values);
-    numbers[35..].copy_from_slice(&state.passes);
-    numbers
+pub fn run_source(text: &[u8], state: &mut [u32], budget: u32) -> Answer {
+    unpack(unsafe { mudzkvopi_run_source(text.as_ptr(), text.len(), state.as_mut_ptr(), state.len(), budget) })
 }
 
-fn state(numbers: &[u32; 51]) -> State {
-    State {
-        capacity: numbers[0],
-        line: numbers[1],
-        steps: numbers[2],
-        values: numbers[3..35].try_into().unwrap(),
-        passes: numbers[35..].try_into().unwrap(),
-    }
-}
-
-pub fn run_source(text: &[u8], at: &mut State, budget: u32) -> Answer {
-    let mut slots = numbers(at);
-    let packed = unsafe { mudzkvopi_run_source(text.as_ptr(), text.len(), slots.as_mut_ptr(), slots.len(), budget) };
-    *at = state(&slots);
-    unpack(packed)
-}
-
-pub fn run_source_list(list: &[u8], at: &mut State, budget: u32) -> Answer {
-    let mut slots = numbers(at);
-    let packed = unsafe { mudzkvopi_run_source_list(list.as_ptr(), list.len(), slots.as_mut_ptr(), slots.len(), budget) };
-    *at = state(&slots);
-    unpack(packed)
+pub fn run_source_list(list: &[u8], state: &mut [u32], budget: u32) -> Answer {
+    unpack(unsafe { mudzkvopi_run_source_list(list.as_ptr(), list.len(), state.as_mut_ptr(), state.len(), budget) })
 }
 
 pub fn read_word(word: &[u8], kinds: &mut [u8], operands: &mut [u32]) -> Answer {
@@ -124,4 +93,34 @@ pub fn run_word(machine: &mut Machine, word: &[u8], budget: u32) -> Answer {
             budget,
         )
     })
+}
+
+/// The run tool that RUN_TOOL names, and a folder for its files, which goes when this does.
+pub struct RunTool {
+    path: PathBuf,
+    folder: PathBuf,
+}
+
+impl RunTool {
+    /// `name` keeps folders of one process apart.
+    pub fn new(name: &str) -> RunTool {
+        let path = env::var_os("RUN_TOOL").expect("RUN_TOOL names the run tool").into();
+        let folder = env::temp_dir().join(format!("{name}-{}", process::id()));
+        fs::create_dir_all(&folder).expect("a folder for the run tool");
+        RunTool { path, folder }
+    }
+
+    /// What it prints for a program and a sheet.
+    pub fn run(&self, text: &[u8], sheet: &[u8]) -> String {
+        fs::write(self.folder.join("program.txt"), text).expect("a file in the folder");
+        fs::write(self.folder.join("sheet.txt"), sheet).expect("a file in the folder");
+        let output = Command::new(&self.path).current_dir(&self.folder).output().expect("the run tool runs");
+        String::from_utf8_lossy(&output.stdout).into_owned()
+    }
+}
+
+impl Drop for RunTool {
+    fn drop(&mut self) {
+        fs::remove_dir_all(&self.folder).ok();
+    }
 }

@@ -1,6 +1,6 @@
 //! The text register machine on the set's layout of store and lengths.
 
-use crate::word::{lacking, offset, Instruction};
+use crate::word::{self, lacking, offset, Instruction};
 use crate::{refuse, End, Refusal};
 
 pub const REGISTERS: usize = 64;
@@ -19,14 +19,7 @@ pub struct Machine {
 impl Machine {
     /// Place 1, no steps, and registers that begin with these contents, the others empty.
     pub fn fresh(registers: usize, capacity: usize, contents: &[Vec<u8>]) -> Machine {
-        let mut machine = Machine {
-            registers,
-            capacity,
-            store: vec![0; registers * capacity],
-            lengths: vec![0; registers],
-            place: 1,
-            steps: 0,
-        };
+        let mut machine = Machine { registers, capacity, store: vec![0; registers * capacity], lengths: vec![0; registers], place: 1, steps: 0 };
         for (at, symbols) in contents.iter().enumerate() {
             machine.store[at * capacity..at * capacity + symbols.len()].copy_from_slice(symbols);
             machine.lengths[at] = symbols.len() as u16;
@@ -47,9 +40,7 @@ impl Machine {
             && self.lengths.len() == self.registers;
         let laid = |(place, &length): (&[u8], &u16)| {
             let length = usize::from(length);
-            length <= self.capacity
-                && place[..length].iter().all(|b| matches!(b, b'1' | b'#'))
-                && place[length..].iter().all(|&b| b == 0)
+            length <= self.capacity && place[..length].iter().all(|b| matches!(b, b'1' | b'#')) && place[length..].iter().all(|&b| b == 0)
         };
         if sizes && self.store.chunks(self.capacity).zip(&self.lengths).all(laid) {
             Ok(())
@@ -58,12 +49,13 @@ impl Machine {
         }
     }
 
-    /// Rule 15; places are byte offsets of the word, or entries of a table.
-    pub fn check_registers(&self, table: &[Instruction], entries: bool) -> Result<(), Refusal> {
-        match lacking(table, self.registers) {
-            Some(entry) if entries => refuse(15, entry),
-            Some(entry) => refuse(15, offset(table, entry)),
-            None => Ok(()),
+    /// The instructions of a word that is to be run here, by rules 10 to 15.
+    pub fn accept(&self, word: &[u8]) -> Result<Vec<Instruction>, Refusal> {
+        self.check()?;
+        let table = word::read(word)?;
+        match lacking(&table, self.registers) {
+            Some(entry) => refuse(15, offset(&table, entry)),
+            None => Ok(table),
         }
     }
 

@@ -1,10 +1,9 @@
-//! The examples of docs/REFUSALS.md, read from the page itself, and what the twin says to each.
+//! The examples of docs/REFUSALS.md, read from the page itself, as the cases that try them.
 
-use crate::machine::Machine;
-use crate::program::{read, read_list};
-use crate::source::{check, State};
-use crate::word::{self, Instruction};
-use crate::{tool, Refusal};
+use crate::cases::{Case, Program};
+use crate::machine::{Machine, REGISTERS};
+use crate::source::State;
+use crate::Refusal;
 
 /// A line of a block that is tried: what it is about, its texts and numbers in order, and the answer.
 #[derive(Debug)]
@@ -13,7 +12,7 @@ pub struct Example {
     pub kind: String,
     pub texts: Vec<Vec<u8>>,
     /// The numbers before the first text, after it, and so on; a `/` starts a new group too.
-    pub numbers: Vec<Vec<u64>>,
+    pub numbers: Vec<Vec<u32>>,
     pub answer: Refusal,
 }
 
@@ -24,38 +23,45 @@ fn quoted(text: &str) -> (Vec<u8>, &str) {
     (plain.into_bytes(), &text[end + 1..])
 }
 
+/// The number behind ` x `, or 1; and what follows.
+fn times(text: &str) -> (usize, &str) {
+    let Some(times) = text.strip_prefix("x ") else { return (1, text) };
+    let (count, rest) = times.split_once(' ').unwrap_or((times, ""));
+    (count.parse().expect("a count"), rest)
+}
+
 fn example(line: &str) -> Example {
     let (given, answer) = line.split_once(" -> ").expect("an answer");
     let (number, place) = answer.split_once(' ').expect("number and place");
-    let answer = Refusal { number: number.parse().unwrap(), place: place.parse().unwrap() };
+    let answer = Refusal { number: number.parse().expect("a number"), place: place.parse().expect("a place") };
     let (kind, mut rest) = given.split_once(' ').unwrap_or((given, ""));
     let mut texts: Vec<Vec<u8>> = Vec::new();
     let mut numbers = vec![Vec::new()];
     let mut joined = false;
     while !rest.is_empty() {
         if let Some(inside) = rest.strip_prefix('"') {
-            let (mut text, mut after) = quoted(inside);
-            if let Some(times) = after.strip_prefix(" x ") {
-                let (count, left) = times.split_once(' ').unwrap_or((times, ""));
-                text = text.repeat(count.parse().unwrap());
-                after = left;
-            }
+            let (text, after) = quoted(inside);
+            let (count, after) = times(after.trim_start());
             match texts.last_mut() {
-                Some(last) if joined => last.extend(text),
-                _ => texts.push(text),
+                Some(last) if joined => last.extend(text.repeat(count)),
+                _ => texts.push(text.repeat(count)),
             }
             numbers.push(Vec::new());
-            rest = after.trim_start();
+            rest = after;
             joined = false;
             continue;
         }
-        let (word, left) = rest.split_once(' ').unwrap_or((rest, ""));
+        let (word, after) = rest.split_once(' ').unwrap_or((rest, ""));
+        rest = after;
         match word {
             "+" => joined = true,
             "/" => numbers.push(Vec::new()),
-            number => numbers.last_mut().unwrap().push(number.parse().unwrap()),
+            number => {
+                let (count, after) = times(rest);
+                numbers.last_mut().expect("a group").extend(vec![number.parse::<u32>().expect("a number"); count]);
+                rest = after;
+            }
         }
-        rest = left;
     }
     Example { line: line.into(), kind: kind.into(), texts, numbers, answer }
 }
@@ -75,58 +81,72 @@ pub fn examples(page: &str) -> Vec<Example> {
     found
 }
 
-impl Example {
-    pub fn list(&self) -> Vec<u8> {
-        self.numbers.concat().iter().map(|&n| n as u8).collect()
-    }
+/// Every call that is given a program.
+fn of_program(program: Program, state: State) -> Vec<Case> {
+    vec![
+        Case::Convert { program: program.clone(), lent: 16_384 },
+        Case::Translate { program: program.clone(), lent: 600_000 },
+        Case::RunSource { program, state: state.numbers().to_vec(), budget: 1 },
+    ]
+}
 
+impl Example {
     /// Capacity, line, the values and, behind the `/`, the passes-left.
-    pub fn state(&self) -> State {
-        let mut state = State::fresh(self.numbers[1][0] as u32, [0; 32]);
-        state.line = self.numbers[1][1] as u32;
+    fn state(&self) -> State {
+        let mut state = State::fresh(self.numbers[1][0], [0; 32]);
+        state.line = self.numbers[1][1];
         for (to, from) in state.values.iter_mut().zip(&self.numbers[1][2..]) {
-            *to = *from as u32;
+            *to = *from;
         }
         for (to, from) in state.passes.iter_mut().zip(&self.numbers[2]) {
-            *to = *from as u32;
+            *to = *from;
         }
         state
     }
 
-    pub fn machine(&self) -> Machine {
-        let sizes = &self.numbers[0];
-        let mut machine = Machine::fresh(1, 1, &[]);
-        machine.registers = sizes[0] as usize;
-        if self.kind == "memory" {
-            machine.capacity = sizes[1] as usize;
-            machine.store = self.texts[0].clone();
-            machine.lengths = self.numbers[1].iter().map(|&n| n as u16).collect();
+    /// Registers, capacity, the store and the lengths.
+    fn machine(&self) -> Machine {
+        Machine {
+            registers: self.numbers[0][0] as usize,
+            capacity: self.numbers[0][1] as usize,
+            store: self.texts[0].clone(),
+            lengths: self.numbers[1].iter().map(|&n| n as u16).collect(),
+            place: 1,
+            steps: 0,
         }
-        machine
     }
 
-    pub fn table(&self) -> Vec<Instruction> {
+    /// The calls that must answer as the page says.
+    pub fn cases(&self) -> Vec<Case> {
+        let text = || self.texts[0].clone();
         let numbers = self.numbers.concat();
-        numbers.chunks(2).map(|e| Instruction { kind: e[0] as u8, operand: e[1] as u32 }).collect()
-    }
-
-    /// What the twin says.
-    pub fn twin(&self) -> Option<Refusal> {
-        let text = || &self.texts[0];
+        let fresh = State::fresh(1, [0; 32]);
         match self.kind.as_str() {
-            "program" => read(text()).err(),
-            "list" => read_list(&self.list()).err(),
-            "source" => read(text()).and_then(|c| check(&c, &self.state())).err(),
-            "memory" => self.machine().check().err(),
-            "word" => word::read(text()).err(),
-            "table" => word::check_table(&self.table()).err(),
-            "machine" => word::read(text()).and_then(|t| self.machine().check_registers(&t, false)).err(),
-            "sheet" => {
-                let printed = tool::report(text(), &self.texts[1]);
-                let mut words = printed.strip_prefix("refused ")?.split_whitespace();
-                let number = words.next()?.parse().ok()?;
-                Some(Refusal { number, place: words.next()?.parse().ok()? })
+            "program" => {
+                let mut cases = of_program(Program::Text(text()), fresh);
+                cases.push(Case::Report { text: text(), sheet: b"\n".to_vec() });
+                cases
             }
+            "list" => of_program(Program::List(numbers.iter().map(|&n| n as u8).collect()), fresh),
+            "source" => {
+                let program = Program::Text(text());
+                let list = Program::List(program.converted().expect("an accepted program"));
+                let run = |program: Program| Case::RunSource { program, state: self.state().numbers().to_vec(), budget: 1 };
+                vec![run(program), run(list)]
+            }
+            "memory" => vec![Case::RunWord { word: b"1###".to_vec(), machine: self.machine(), budget: 1 }],
+            "word" => vec![
+                Case::ReadWord { word: text(), kinds: 8_192, operands: 8_192 },
+                Case::RunWord { word: text(), machine: Machine::fresh(REGISTERS, 1, &[]), budget: 1 },
+            ],
+            "table" => vec![Case::WriteWord {
+                kinds: numbers.iter().step_by(2).map(|&n| n as u8).collect(),
+                operands: numbers.iter().skip(1).step_by(2).copied().collect(),
+                lent: 600_000,
+            }],
+            "machine" => vec![Case::RunWord { word: text(), machine: Machine::fresh(numbers[0] as usize, 1, &[]), budget: 1 }],
+            "sheet" => vec![Case::Report { text: text(), sheet: self.texts[1].clone() }],
+            "translate" => vec![Case::Translate { program: Program::Text(text()), lent: numbers[0] as usize }],
             other => panic!("{other} is no kind of example"),
         }
     }

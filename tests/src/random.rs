@@ -1,8 +1,10 @@
 //! Cases by chance, the same for the same seed: programs, words, states, sheets, and damage to them.
 
-use crate::machine::Machine;
+use crate::edges::NEARLY;
+use crate::machine::{self, Machine};
 use crate::program::{list, variables, write, Command, Kind, OPEN};
-use crate::source::State;
+use crate::source::{self, State};
+use crate::translation::translate;
 use crate::word::{spell, Instruction};
 
 /// A generator of 64-bit numbers (splitmix64).
@@ -13,7 +15,7 @@ impl Random {
         Random(seed)
     }
 
-    pub fn next(&mut self) -> u64 {
+    fn bits(&mut self) -> u64 {
         self.0 = self.0.wrapping_add(0x9e37_79b9_7f4a_7c15);
         let mut z = self.0;
         z = (z ^ (z >> 30)).wrapping_mul(0xbf58_476d_1ce4_e5b9);
@@ -23,7 +25,7 @@ impl Random {
 
     /// A number below `n`.
     pub fn below(&mut self, n: usize) -> usize {
-        (self.next() % n.max(1) as u64) as usize
+        (self.bits() % n.max(1) as u64) as usize
     }
 
     /// True once in `n` times.
@@ -84,7 +86,14 @@ impl Random {
             _ => 1 + self.below(14),
         };
         let names = if self.once_in(6) { 32 } else { 1 + self.below(5) };
-        self.program(lines, names)
+        let mut commands = self.program(lines, names);
+        if self.once_in(20) {
+            let depth = OPEN - 2 + self.below(4);
+            let index = self.below(names) as u64;
+            commands.splice(0..0, vec![Command::Open(Kind::Loop, index); depth]);
+            commands.extend(vec![Command::Close(Kind::Loop, index); depth]);
+        }
+        commands
     }
 
     /// A program's text, damaged or not.
@@ -95,6 +104,11 @@ impl Random {
             for _ in 0..times {
                 self.damage(&mut text, b"X0123456789 <-+1=!loopendwhile\n\r\t\0\xff");
             }
+        }
+        if self.once_in(10) {
+            let starts: Vec<_> = [0].into_iter().chain((1..text.len()).filter(|&at| text[at - 1] == b'\n')).collect();
+            let at = self.pick(&starts);
+            text.splice(at..at, self.pick(&NEARLY).bytes().chain([b'\n']));
         }
         if self.once_in(40) {
             text.resize(self.near(16_384, 16_384), b'\n');
@@ -133,44 +147,64 @@ impl Random {
         }
     }
 
-    pub fn budget(&mut self) -> u32 {
-        match self.below(6) {
+    /// A number at or beside the end of a run of `n` steps, or another.
+    pub fn around(&mut self, n: u32) -> u32 {
+        match self.below(8) {
             0 => 0,
-            1 => self.below(8) as u32,
-            2 => u32::MAX,
-            _ => self.below(3000) as u32,
+            1 => n.saturating_sub(1),
+            2 => n,
+            3 => n + 1,
+            4 => u32::MAX,
+            5 => self.below(3000) as u32,
+            _ => self.below(n as usize + 1) as u32,
         }
     }
 
-    fn count(&mut self) -> u32 {
-        match self.below(5) {
-            0 => u32::MAX,
-            1 => u32::MAX - self.below(20) as u32,
-            _ => self.below(100) as u32,
+    /// A count of steps whose largest value is near the end of a run of `n` steps, or another.
+    pub fn count(&mut self, n: u32) -> u32 {
+        if self.once_in(3) {
+            u32::MAX - self.around(n)
+        } else {
+            self.below(100) as u32
+        }
+    }
+
+    /// Mostly small; once in a while the largest there is.
+    fn capacity(&mut self) -> usize {
+        if self.once_in(20) {
+            machine::CAPACITY
+        } else {
+            1 + self.below(12)
+        }
+    }
+
+    /// The length of a register, or a value, within a capacity.
+    fn amount(&mut self, capacity: usize) -> usize {
+        if self.once_in(4) {
+            capacity - self.below(2)
+        } else {
+            self.below(capacity + 1)
         }
     }
 
     /// A source state for a program; most pass rule 9.
     pub fn state(&mut self, commands: &[Command]) -> State {
         let k = variables(commands);
-        let capacity = 1 + self.below(12) as u32;
+        let capacity = self.capacity();
         let mut values = [0; 32];
-        for value in &mut values[..k.min(32)] {
-            *value = self.below(capacity as usize + 1) as u32;
-        }
-        let mut state = State::fresh(capacity, values);
-        state.steps = self.count();
-        if self.once_in(3) {
+        values[..k.min(32)].fill_with(|| self.amount(capacity) as u32);
+        let mut state = State::fresh(capacity as u32, values);
+        if self.once_in(6) {
             state.line = self.below(commands.len() + 3) as u32;
             for passes in &mut state.passes {
-                *passes = if self.once_in(2) { self.below(capacity as usize + 2) as u32 } else { 0 };
+                *passes = if self.once_in(2) { self.below(capacity + 2) as u32 } else { 0 };
             }
         }
-        if self.once_in(12) {
-            state.capacity = self.pick(&[0, 1, 1024, 1025, u32::MAX]);
+        if self.once_in(24) {
+            state.capacity = self.pick(&[0, 1, source::CAPACITY, source::CAPACITY + 1, u32::MAX]);
         }
-        if self.once_in(12) {
-            state.values[self.below(32)] = self.pick(&[1, 1024, 1025, u32::MAX]);
+        if self.once_in(24) {
+            state.values[self.below(32)] = self.pick(&[1, source::CAPACITY, source::CAPACITY + 1, u32::MAX]);
         }
         state
     }
@@ -196,17 +230,18 @@ impl Random {
         word
     }
 
+    fn symbols(&mut self, capacity: usize, marks: usize) -> Vec<u8> {
+        (0..self.amount(capacity)).map(|_| if self.below(6) < marks { b'#' } else { b'1' }).collect()
+    }
+
     /// A machine; most pass rule 10.
     pub fn machine(&mut self) -> Machine {
         let registers = 1 + self.below(6);
-        let capacity = 1 + self.below(9);
-        let contents: Vec<_> = (0..registers)
-            .map(|_| (0..self.below(capacity + 1)).map(|_| if self.once_in(3) { b'#' } else { b'1' }).collect())
-            .collect();
+        let capacity = self.capacity();
+        let contents: Vec<_> = (0..registers).map(|_| self.symbols(capacity, 2)).collect();
         let mut machine = Machine::fresh(registers, capacity, &contents);
-        machine.steps = self.count();
-        if self.once_in(4) {
-            machine.place = self.pick(&[i32::MIN, -1, 0, 2, 3, 9, i32::MAX]);
+        if self.once_in(6) {
+            machine.place = self.pick(&[i32::MIN, i32::MIN + 1, -1, 0, 2, 3, 9, i32::MAX - 1, i32::MAX]);
         }
         match self.below(24) {
             0 => machine.registers += 1,
@@ -221,6 +256,16 @@ impl Random {
             _ => {}
         }
         machine
+    }
+
+    /// The word of a program, and a machine that starts it, mostly with 1s only in its registers.
+    pub fn translated(&mut self) -> (Vec<u8>, Machine) {
+        let lines = self.below(14);
+        let commands = self.program(lines, 3);
+        let capacity = self.capacity();
+        let marks = usize::from(self.once_in(5));
+        let contents: Vec<_> = (0..variables(&commands)).map(|_| self.symbols(capacity, marks)).collect();
+        (spell(&translate(&commands)), Machine::fresh(machine::REGISTERS, capacity, &contents))
     }
 
     /// A sheet for a program of `k` variables, damaged or not.

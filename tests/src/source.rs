@@ -19,6 +19,20 @@ impl State {
     pub fn fresh(capacity: u32, values: [u32; 32]) -> State {
         State { capacity, line: 1, steps: 0, values, passes: [0; 16] }
     }
+
+    /// The state as the C entries have it: capacity, line, steps, values, passes-left.
+    pub fn numbers(&self) -> [u32; 51] {
+        let mut numbers = [0; 51];
+        numbers[..3].copy_from_slice(&[self.capacity, self.line, self.steps]);
+        numbers[3..35].copy_from_slice(&self.values);
+        numbers[35..].copy_from_slice(&self.passes);
+        numbers
+    }
+
+    pub fn from_numbers(numbers: &[u32]) -> Option<State> {
+        let (values, passes) = (numbers.get(3..35)?, numbers.get(35..)?);
+        Some(State { capacity: numbers[0], line: numbers[1], steps: numbers[2], values: values.try_into().ok()?, passes: passes.try_into().ok()? })
+    }
 }
 
 /// Rule 9.

@@ -35,3 +35,9 @@ fn runs(text: &[u8], sheet: &[u8]) -> Result<String, Refusal> {
 pub fn report(text: &[u8], sheet: &[u8]) -> String {
     runs(text, sheet).unwrap_or_else(|r| format!("refused {} {}\n", r.number, r.place))
 }
+
+/// The refusal that a printed text tells of.
+pub fn refusal(printed: &str) -> Option<Refusal> {
+    let (number, place) = printed.strip_prefix("refused ")?.strip_suffix('\n')?.split_once(' ')?;
+    Some(Refusal { number: number.parse().ok()?, place: place.parse().ok()? })
+}

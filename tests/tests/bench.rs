@@ -1,11 +1,11 @@
-//! Document 01's bench examples, on the twin.
+//! Document 01's bench examples, and the run tool's budgets, on the twin.
 
 use twin::machine::Machine;
 use twin::program::{read, variables};
 use twin::source::{run, State};
 use twin::translation::translate;
 use twin::word::{self, spell};
-use twin::{tool, End, Refusal};
+use twin::{edges, tool, End, Refusal};
 
 fn values(start: &[u32]) -> [u32; 32] {
     let mut values = [0; 32];
@@ -78,4 +78,13 @@ fn texts() {
 fn run_tool() {
     let printed = "source-end source-steps word-end word-steps X0\nhalted 7 halted 37 3\nhalted 1 halted 7 0\n";
     assert_eq!(tool::report(ADDER.as_bytes(), b"X1\n3\n0\n"), printed);
+}
+
+#[test]
+fn run_tool_budgets() {
+    let ends = edges::budgets().map(|(text, sheet)| tool::report(text.as_bytes(), sheet.as_bytes()).lines().last().unwrap_or_default().to_string());
+    assert!(ends[0].starts_with("halted 100000 "), "{}", ends[0]);
+    assert!(ends[1].starts_with("spent 100000 "), "{}", ends[1]);
+    assert!(ends[2].contains(" halted 1000000 "), "{}", ends[2]);
+    assert!(ends[3].contains(" spent 1000000 "), "{}", ends[3]);
 }

@@ -1,11 +1,26 @@
-//! Demand 3 and the claim on full, tried on the twin: programs by chance, their words run, ends, steps, registers and charges compared.
+//! Demand 3 and the claim on full, tried: programs by chance, their words run by the twin, ends, steps, registers and charges compared. Where the
+//! library is linked the words are those that it translates, else the twin's own.
 
 use twin::machine::Machine;
-use twin::program::variables;
+use twin::program::{variables, Command};
 use twin::random::Random;
 use twin::source::{run, State};
-use twin::translation::translate;
+use twin::word::Instruction;
 use twin::End;
+
+#[cfg(not(feature = "library"))]
+fn translated(commands: &[Command]) -> Vec<Instruction> {
+    twin::translation::translate(commands)
+}
+
+#[cfg(feature = "library")]
+fn translated(commands: &[Command]) -> Vec<Instruction> {
+    let mut word = vec![0; 600_000];
+    let twin::Answer::Done { low, .. } = twin::library::translate(&twin::program::write(commands), &mut word) else {
+        panic!("{commands:?} is refused")
+    };
+    twin::word::read(&word[..low as usize]).expect("a word")
+}
 
 #[test]
 fn source_and_word() {
@@ -22,7 +37,7 @@ fn source_and_word() {
         let mut state = State::fresh(capacity as u32, values);
         let mut machine = Machine::fresh(64, capacity, &ones);
         let source = run(&commands, &mut state, 3_000);
-        let (end, steps) = machine.run(&translate(&commands), 300_000);
+        let (end, steps) = machine.run(&translated(&commands), 300_000);
         assert_ne!(end, End::Strayed);
         if source.end == End::Spent || end == End::Spent {
             continue;

@@ -1,20 +1,39 @@
-//! What the pages and the examples folder say, on the twin.
+//! What the pages and the examples folder say, on the twin, and where it is linked on the library.
 
 use std::fs;
 use std::path::Path;
-use twin::{page, tool};
+use twin::page::{self, Example};
+use twin::{tool, Answer};
 
 fn at_root(name: &str) -> std::path::PathBuf {
     Path::new(env!("CARGO_MANIFEST_DIR")).join("..").join(name)
 }
 
+fn examples() -> Vec<Example> {
+    let examples = page::examples(&fs::read_to_string(at_root("docs/REFUSALS.md")).expect("the page"));
+    for rule in 1..=19 {
+        assert!(examples.iter().any(|e| e.answer.number == rule), "the page has an example of {rule}");
+    }
+    examples
+}
+
 #[test]
 fn refusals() {
-    let page = fs::read_to_string(at_root("docs/REFUSALS.md")).expect("the page");
-    let examples = page::examples(&page);
-    assert!(examples.len() > 50, "the page has its examples");
-    for example in examples {
-        assert_eq!(example.twin(), Some(example.answer), "{}", example.line);
+    for example in examples() {
+        for case in example.cases() {
+            assert_eq!(case.twin().answer, Answer::Refused(example.answer), "{}, to {}", example.line, case.name());
+        }
+    }
+}
+
+#[cfg(feature = "library")]
+#[test]
+fn refusals_of_the_library() {
+    let tool = twin::library::RunTool::new("pages");
+    for example in examples() {
+        for case in example.cases() {
+            assert_eq!(case.library(&tool), case.twin(), "{}, to {}", example.line, case.name());
+        }
     }
 }
 

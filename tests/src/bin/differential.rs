@@ -1,251 +1,291 @@
-//! The library against the twin, on cases by chance: `differential [seed] [count]`. The same seed gives the same cases. Where RUN_TOOL names the run tool,
-//! its reports are compared too.
+//! The library and the run tool against the twin: `differential [seed] [count]`. First the cases at the limits, then so many of every kind by chance; the same
+//! seed gives the same cases. Last it says how often each answer was given, and fails if one that a call has came seldom. RUN_TOOL names the run tool.
 
-use std::path::Path;
-use std::process::{exit, Command};
-use std::{env, fs};
-use twin::library::{self, Answer};
-use twin::program::{list, read, read_list, variables, write};
+use std::collections::BTreeMap;
+use std::env;
+use std::process::exit;
+use std::time::{Duration, Instant};
+use twin::cases::{Case, Program};
+use twin::library::RunTool;
+use twin::machine::Machine;
+use twin::program::{list, read, variables, write};
 use twin::random::Random;
-use twin::source::{self, State};
 use twin::translation::translate;
 use twin::word::{self, spell, Instruction};
-use twin::{tool, Refusal};
+use twin::{edges, source, Answer, End};
 
-/// What the output past the result is filled with, to see that it stays.
-const FILL: u8 = 0xa5;
+/// A run by chance that hasn't ended after so many steps has a budget of at most that.
+const LONGEST: u32 = 20_000;
 
-/// A result of so many elements for a lent output of another length: rule 19.
-fn lend<T: Copy>(result: Result<Vec<T>, Refusal>, lent: &[T]) -> (Result<usize, Refusal>, Vec<T>) {
-    let mut after = lent.to_vec();
-    match result {
-        Err(r) => (Err(r), after),
-        Ok(result) if result.len() > lent.len() => (Err(Refusal { number: 19, place: 0 }), after),
-        Ok(result) => {
-            after[..result.len()].copy_from_slice(&result);
-            (Ok(result.len()), after)
+/// The answers of each call, every one of which must come `LEAST` times.
+const ANSWERS: [(&str, &str); 10] = [
+    ("read a text", "done 1 2 3 4 5 6 7 8 19"),
+    ("write a list", "done 3 4 5 6 7 8 19"),
+    ("translate a text", "done 1 2 3 4 5 6 7 8 19"),
+    ("translate a list", "done 3 4 5 6 7 8 19"),
+    ("run a text", "halted spent full 1 2 3 4 5 6 7 8 9"),
+    ("run a list", "halted spent full 3 4 5 6 7 8 9"),
+    ("read a word", "done 11 12 13 14 19"),
+    ("write a word", "done 11 13 14 19"),
+    ("run a word", "halted strayed spent full 10 11 12 13 14 15"),
+    ("the run tool", "done 1 2 3 4 5 6 7 8 16 17 18 19"),
+];
+const LEAST: u64 = 5;
+
+/// Cases that agreed, by call and answer.
+struct Tally {
+    tool: RunTool,
+    counts: BTreeMap<(&'static str, String), u64>,
+    seen: u64,
+}
+
+impl Tally {
+    /// Holds the library's outcome against the twin's; where they differ, the smallest such case that is found is shown, and that is the end.
+    fn hold(&mut self, case: Case) {
+        let (twin, library) = (case.twin(), case.library(&self.tool));
+        if twin != library {
+            let case = self.smallest(case);
+            let (twin, library) = (case.twin(), case.library(&self.tool));
+            println!("{}: they differ on {case:?}\n  twin    {:?}\n  library {:?}", case.name(), twin.answer, library.answer);
+            if let Some(at) = (0..twin.memory.len()).find(|&at| twin.memory.get(at) != library.memory.get(at)) {
+                println!("  in memory first at {at}: twin {:?}, library {:?}", twin.memory.get(at), library.memory.get(at));
+            }
+            exit(1);
+        }
+        let answer = match twin.answer {
+            Answer::Done { .. } => "done".into(),
+            Answer::Ended(end, _) => end.name().into(),
+            Answer::Refused(r) => r.number.to_string(),
+        };
+        *self.counts.entry((case.name(), answer)).or_default() += 1;
+        self.seen += 1;
+    }
+
+    fn smallest(&self, mut case: Case) -> Case {
+        let until = Instant::now() + Duration::from_secs(20);
+        let differs = |c: &Case| c.twin() != c.library(&self.tool);
+        loop {
+            let found = case.smaller().take_while(|_| Instant::now() < until).find(differs);
+            match found {
+                Some(smaller) => case = smaller,
+                None => return case,
+            }
+        }
+    }
+
+    /// The counts; false if an answer came too seldom.
+    fn covers(&self) -> bool {
+        let mut all = true;
+        for (call, answers) in ANSWERS {
+            let count = |answer: &str| self.counts.get(&(call, answer.into())).copied().unwrap_or(0);
+            let shown: Vec<_> = answers.split(' ').map(|answer| format!("{answer} ×{}", count(answer))).collect();
+            println!("differential: {call}: {}", shown.join(", "));
+            all &= answers.split(' ').all(|answer| count(answer) >= LEAST);
+        }
+        all
+    }
+}
+
+/// Each call that is given a program, with outputs of its result's length, of one less, and of the most.
+fn program_edges(tally: &mut Tally, program: &Program) {
+    let converted = program.converted().map_or(9, |c| c.len());
+    let symbols = program.read().map_or(9, |c| spell(&translate(&c)).len());
+    for lent in [converted.saturating_sub(1), converted, 16_384] {
+        tally.hold(Case::Convert { program: program.clone(), lent });
+    }
+    for lent in [symbols - 1, symbols, 600_000] {
+        tally.hold(Case::Translate { program: program.clone(), lent });
+    }
+    let state = source::State::fresh(5, [0; 32]).numbers().to_vec();
+    tally.hold(Case::RunSource { program: program.clone(), state, budget: 100 });
+}
+
+/// A sample program from every state at a limit; its source and its word with every budget up to past the end, and every count of steps near the largest.
+fn sample_edges(tally: &mut Tally, text: &[u8], start: &[u32]) {
+    let commands = read(text).expect("a sample is accepted");
+    for state in edges::states(&commands, start) {
+        tally.hold(Case::RunSource { program: Program::Text(text.into()), state: state.clone(), budget: 9 });
+        tally.hold(Case::RunSource { program: Program::List(list(&commands)), state, budget: 9 });
+    }
+    let (state, machine) = edges::fresh(&commands, start);
+    let table = translate(&commands);
+    let ends = source::run(&commands, &mut state.clone(), 200).steps;
+    let word_ends = machine.clone().run(&table, 200).1;
+    for n in 0..=ends + 2 {
+        for (steps, budget) in [(0, n), (u32::MAX - n, 200), (u32::MAX - n, ends), (u32::MAX - ends, n)] {
+            let state = source::State { steps, ..state.clone() }.numbers().to_vec();
+            tally.hold(Case::RunSource { program: Program::Text(text.into()), state, budget });
+        }
+    }
+    for n in 0..=word_ends + 2 {
+        for (steps, budget) in [(0, n), (u32::MAX - n, 200), (u32::MAX - n, word_ends), (u32::MAX - word_ends, n)] {
+            tally.hold(Case::RunWord { word: spell(&table), machine: Machine { steps, ..machine.clone() }, budget });
+        }
+    }
+    let last = table.len() as i32;
+    for place in [i32::MIN, i32::MIN + 1, -1, last + 2, i32::MAX - 1, i32::MAX].into_iter().chain(0..=last + 1) {
+        for budget in [0, 1, 2, 200] {
+            tally.hold(Case::RunWord { word: spell(&table), machine: Machine { place, ..machine.clone() }, budget });
         }
     }
 }
 
-/// A lent output whose length is near that of the result.
-fn output<T: Copy>(random: &mut Random, length: usize, fill: T) -> Vec<T> {
-    let length = match random.below(6) {
+/// All cases at the limits.
+fn at_limits(tally: &mut Tally) {
+    for text in edges::texts() {
+        program_edges(tally, &Program::Text(text.clone()));
+        tally.hold(Case::Report { text, sheet: b"\n\n".to_vec() });
+    }
+    for list in edges::lists() {
+        program_edges(tally, &Program::List(list));
+    }
+    for (text, start) in edges::SAMPLES {
+        sample_edges(tally, text, start);
+    }
+    for word in edges::words() {
+        let count = word::read(&word).map_or(9, |t| t.len());
+        for (kinds, operands) in [(count - 1, count), (count, count - 1), (count, count), (8_192, 8_200)] {
+            tally.hold(Case::ReadWord { word: word.clone(), kinds, operands });
+        }
+        for (registers, budget) in [(64, 99), (1, 99), (63, 0)] {
+            tally.hold(Case::RunWord { word: word.clone(), machine: Machine::fresh(registers, 2, &[b"#".to_vec()]), budget });
+        }
+    }
+    for (kinds, operands) in edges::tables() {
+        for lent in [0, 83, 599_999, 600_000] {
+            tally.hold(Case::WriteWord { kinds: kinds.clone(), operands: operands.clone(), lent });
+        }
+    }
+    for machine in edges::machines() {
+        for word in [&b"1#"[..], b"1###", b"111#####1##11#", b"", b"1111#"] {
+            tally.hold(Case::RunWord { word: word.to_vec(), machine: machine.clone(), budget: 9 });
+        }
+    }
+    for sheet in edges::sheets() {
+        for text in [&b"loop X1\nX0 <- X3\nendloop X1\n"[..], b"", b"loop X1\n"] {
+            tally.hold(Case::Report { text: text.to_vec(), sheet: sheet.clone() });
+        }
+    }
+    for (text, sheet) in edges::budgets() {
+        tally.hold(Case::Report { text: text.into(), sheet: sheet.into() });
+    }
+    for commands in edges::long_words() {
+        for sheet in ["\n", "X31 X30\n1024 1024\n", "X32\n", "X31\n1025\n", ""] {
+            tally.hold(Case::Report { text: write(&commands), sheet: sheet.into() });
+        }
+    }
+}
+
+/// A length near that of the result.
+fn lent(random: &mut Random, length: usize) -> usize {
+    match random.below(6) {
         0 => length.saturating_sub(1),
         1 => random.below(length + 1),
         2 => length,
         _ => length + random.below(9),
-    };
-    vec![fill; length]
-}
-
-/// Two answers, the twin's and the library's, as they are to be compared and shown.
-type Pair = (String, String);
-
-fn pair<T: std::fmt::Debug>(twin: T, library: T) -> Pair {
-    (format!("{twin:?}"), format!("{library:?}"))
-}
-
-fn expected(result: Result<usize, Refusal>, high: u32) -> Answer {
-    match result {
-        Ok(low) => Answer::Done { high, low: low as u32 },
-        Err(r) => Answer::Refused(r),
     }
 }
 
-fn read_program(text: &[u8], lent: &[u8]) -> Pair {
-    let commands = read(text);
-    let high = commands.as_ref().map_or(0, |c| variables(c)) as u32;
-    let (result, after) = lend(commands.map(|c| list(&c)), lent);
-    let mut out = lent.to_vec();
-    let answer = library::read_program(text, &mut out);
-    pair((expected(result.map(|n| n / 3), high), after), (answer, out))
-}
-
-fn write_program(numbers: &[u8], lent: &[u8]) -> Pair {
-    let (result, after) = lend(read_list(numbers).map(|c| write(&c)), lent);
-    let mut out = lent.to_vec();
-    let answer = library::write_program(numbers, &mut out);
-    pair((expected(result, 0), after), (answer, out))
-}
-
-fn translation(text: &[u8], as_list: bool, lent: &[u8]) -> Pair {
-    let commands = if as_list { read_list(text) } else { read(text) };
-    let table = commands.map(|c| translate(&c));
-    let high = table.as_ref().map_or(0, |t| t.len()) as u32;
-    let (result, after) = lend(table.map(|t| spell(&t)), lent);
-    let mut out = lent.to_vec();
-    let answer = if as_list { library::translate_list(text, &mut out) } else { library::translate(text, &mut out) };
-    pair((expected(result, high), after), (answer, out))
-}
-
-fn source_run(text: &[u8], as_list: bool, from: &State, budget: u32) -> Pair {
-    let mut twin = from.clone();
-    let commands = if as_list { read_list(text) } else { read(text) };
-    let answer = match commands.and_then(|c| source::check(&c, &twin).map(|()| c)) {
-        Err(r) => Answer::Refused(r),
-        Ok(commands) => {
-            let ran = source::run(&commands, &mut twin, budget);
-            Answer::Ended(ran.end, ran.steps)
+/// A run of a program from a state by chance, or from the middle of a run, with a budget and a count of steps around its end.
+fn source_case(random: &mut Random, program: Program) -> Case {
+    let commands = program.read().unwrap_or_default();
+    let mut state = random.state(&commands);
+    let mut budget = random.below(3000) as u32;
+    if source::check(&commands, &state).is_ok() {
+        let ran = source::run(&commands, &mut state.clone(), LONGEST);
+        let done = if random.once_in(2) { random.below(ran.steps as usize + 1) as u32 } else { 0 };
+        source::run(&commands, &mut state, done);
+        let left = ran.steps - done;
+        budget = random.around(left);
+        if ran.end == End::Spent {
+            budget = budget.min(LONGEST);
         }
-    };
-    let mut state = from.clone();
-    let found = if as_list { library::run_source_list(text, &mut state, budget) } else { library::run_source(text, &mut state, budget) };
-    pair((answer, twin), (found, state))
+        state.steps = random.count(left);
+    }
+    Case::RunSource { program, state: state.numbers().to_vec(), budget }
 }
 
-fn read_word(text: &[u8], kinds: &[u8], operands: &[u32]) -> Pair {
-    let table = word::read(text);
-    let (of_kinds, after_kinds) = lend(table.clone().map(|t| t.iter().map(|i| i.kind).collect()), kinds);
-    let (of_operands, after_operands) = lend(table.map(|t| t.iter().map(|i| i.operand).collect()), operands);
-    let (result, k, o) = match (of_kinds, of_operands) {
-        (Ok(n), Ok(_)) => (Ok(n), after_kinds, after_operands),
-        (Err(r), _) | (_, Err(r)) => (Err(r), kinds.to_vec(), operands.to_vec()),
-    };
-    let (mut ks, mut os) = (kinds.to_vec(), operands.to_vec());
-    let answer = library::read_word(text, &mut ks, &mut os);
-    pair((expected(result, 0), k, o), (answer, ks, os))
-}
-
-fn write_word(table: &[Instruction], lent: &[u8]) -> Pair {
-    let (result, after) = lend(word::check_table(table).map(|()| spell(table)), lent);
-    let mut out = lent.to_vec();
-    let kinds: Vec<_> = table.iter().map(|i| i.kind).collect();
-    let operands: Vec<_> = table.iter().map(|i| i.operand).collect();
-    let answer = library::write_word(&kinds, &operands, &mut out);
-    pair((expected(result, 0), after), (answer, out))
-}
-
-fn word_run(text: &[u8], from: &twin::machine::Machine, budget: u32) -> Pair {
-    let mut twin = from.clone();
-    let table = twin.check().and_then(|()| word::read(text)).and_then(|t| twin.check_registers(&t, false).map(|()| t));
-    let answer = match table {
-        Err(r) => Answer::Refused(r),
-        Ok(table) => {
-            let (end, steps) = twin.run(&table, budget);
-            Answer::Ended(end, steps)
+/// The same for a word.
+fn word_case(random: &mut Random, word: Vec<u8>, mut machine: Machine) -> Case {
+    let mut budget = random.below(3000) as u32;
+    if let Ok(table) = machine.accept(&word) {
+        let (end, ended) = machine.clone().run(&table, LONGEST);
+        let done = if random.once_in(2) { random.below(ended as usize + 1) as u32 } else { 0 };
+        machine.run(&table, done);
+        budget = random.around(ended - done);
+        if end == End::Spent {
+            budget = budget.min(LONGEST);
         }
-    };
-    let mut machine = from.clone();
-    let found = library::run_word(&mut machine, text, budget);
-    pair((answer, twin), (found, machine))
-}
-
-/// What the run tool prints for a program and a sheet, in a folder of its own.
-fn run_tool(tool: &Path, folder: &Path, text: &[u8], sheet: &[u8]) -> String {
-    fs::write(folder.join("program.txt"), text).expect("a file in the folder");
-    fs::write(folder.join("sheet.txt"), sheet).expect("a file in the folder");
-    let output = Command::new(tool).current_dir(folder).output().expect("the run tool runs");
-    String::from_utf8_lossy(&output.stdout).into_owned()
-}
-
-/// The parts of `bytes` that are left when one piece is cut out, largest pieces first.
-fn shorter(bytes: &[u8]) -> Vec<Vec<u8>> {
-    let mut found = Vec::new();
-    let mut piece = bytes.len();
-    while piece > 0 {
-        for at in (0..bytes.len()).step_by(piece) {
-            let mut rest = bytes[..at].to_vec();
-            rest.extend(&bytes[(at + piece).min(bytes.len())..]);
-            found.push(rest);
-        }
-        piece /= 2;
+        machine.steps = random.count(ended - done);
     }
-    found
+    Case::RunWord { word, machine, budget }
 }
 
-/// The case as small as cutting its bytes makes it while the two still differ.
-fn smallest(mut bytes: Vec<u8>, differ: &dyn Fn(&[u8]) -> Pair) -> Vec<u8> {
-    while let Some(next) = shorter(&bytes).into_iter().find(|b| {
-        let (twin, library) = differ(b);
-        twin != library
-    }) {
-        bytes = next;
-    }
-    bytes
-}
-
-fn hold(what: &str, case: u64, bytes: Vec<u8>, answers: &dyn Fn(&[u8]) -> Pair) {
-    let (twin, library) = answers(&bytes);
-    if twin != library {
-        let bytes = smallest(bytes, answers);
-        let (twin, library) = answers(&bytes);
-        println!("{what}, case {case}: they differ on {:?}\n  twin    {twin}\n  library {library}", String::from_utf8_lossy(&bytes));
-        exit(1);
-    }
-}
-
-/// One case of every kind.
-fn try_all(case: u64, random: &mut Random) {
-    let text = random.text();
-    let length = read(&text).map_or(9, |c| list(&c).len());
-    let lent = output(random, length, FILL);
-    hold("read a program", case, text.clone(), &|t| read_program(t, &lent));
-    let numbers = random.list();
-    let length = read_list(&numbers).map_or(9, |c| write(&c).len());
-    let lent = output(random, length, FILL);
-    hold("write a program", case, numbers.clone(), &|l| write_program(l, &lent));
-
-    let length = read(&text).map_or(9, |c| spell(&translate(&c)).len());
-    let lent = output(random, length, FILL);
-    hold("translate a text", case, text.clone(), &|t| translation(t, false, &lent));
-    let length = read_list(&numbers).map_or(9, |c| spell(&translate(&c)).len());
-    let lent = output(random, length, FILL);
-    hold("translate a list", case, numbers.clone(), &|l| translation(l, true, &lent));
-
-    let budget = random.budget();
-    let state = random.state(&read(&text).unwrap_or_default());
-    hold("run a source", case, text.clone(), &|t| source_run(t, false, &state, budget.min(100_000)));
-    let state = random.state(&read_list(&numbers).unwrap_or_default());
-    hold("run a source from a list", case, numbers.clone(), &|l| source_run(l, true, &state, budget.min(100_000)));
-
-    let machine = random.machine();
-    let named = machine.registers + usize::from(random.once_in(6));
-    let word = random.word(named);
-    let count = word::read(&word).map_or(3, |t| t.len());
-    let (kinds, operands) = (output(random, count, FILL), output(random, count, u32::from(FILL)));
-    hold("read a word", case, word.clone(), &|w| read_word(w, &kinds, &operands));
-    hold("run a word", case, word, &|w| word_run(w, &machine, budget.min(100_000)));
-
+fn table_case(random: &mut Random) -> Case {
     let mut table = random.table(8);
     if random.once_in(3) {
         let at = random.below(table.len());
         table[at] = Instruction { kind: random.pick(&[0, 5, 6, 255]), operand: random.pick(&[0, 1, 599_995, 600_000, u32::MAX]) };
     }
     let length = if word::check_table(&table).is_ok() { spell(&table).len() } else { 9 };
-    let lent = output(random, length, FILL);
-    hold("write a word", case, Vec::new(), &|_| write_word(&table, &lent));
+    let mut kinds: Vec<_> = table.iter().map(|i| i.kind).collect();
+    let mut operands: Vec<_> = table.iter().map(|i| i.operand).collect();
+    match random.below(12) {
+        0 => kinds.truncate(random.below(table.len())),
+        1 => operands.truncate(random.below(table.len())),
+        _ => {}
+    }
+    Case::WriteWord { kinds, operands, lent: lent(random, length) }
 }
 
-/// The run tool on a program and a sheet by chance.
-fn try_tool(case: u64, random: &mut Random, tool_path: &Path, folder: &Path) {
+/// One case of every kind but the run tool's.
+fn by_chance(tally: &mut Tally, random: &mut Random) {
+    for program in [Program::Text(random.text()), Program::List(random.list())] {
+        let length = program.converted().map_or(9, |c| c.len());
+        tally.hold(Case::Convert { program: program.clone(), lent: lent(random, length) });
+        let length = program.read().map_or(9, |c| spell(&translate(&c)).len());
+        tally.hold(Case::Translate { program: program.clone(), lent: lent(random, length) });
+        tally.hold(source_case(random, program));
+    }
+    let machine = random.machine();
+    let named = machine.registers + usize::from(random.once_in(6));
+    let word = random.word(named);
+    let count = word::read(&word).map_or(3, |t| t.len());
+    tally.hold(Case::ReadWord { word: word.clone(), kinds: lent(random, count), operands: lent(random, count) });
+    tally.hold(word_case(random, word, machine));
+    let (word, machine) = random.translated();
+    tally.hold(word_case(random, word, machine));
+    tally.hold(table_case(random));
+}
+
+fn report_case(random: &mut Random) -> Case {
     let lines = random.below(9);
     let small = write(&random.program(lines, 3));
     let text = if random.once_in(4) { random.text() } else { small };
     let sheet = random.sheet(read(&text).map_or(2, |c| variables(&c)));
-    hold("the run tool", case, sheet, &|s| (tool::report(&text, s), run_tool(tool_path, folder, &text, s)));
+    Case::Report { text, sheet }
 }
 
 fn main() {
     let mut words = env::args().skip(1).map(|w| w.parse::<u64>().expect("a seed and a count, as numbers"));
     let seed = words.next().unwrap_or(1);
     let count = words.next().unwrap_or(4_000);
+    let mut tally = Tally { tool: RunTool::new("differential"), counts: BTreeMap::new(), seen: 0 };
+    at_limits(&mut tally);
+    println!("differential: {} cases at the limits agree", tally.seen);
     let mut random = Random::new(seed);
-    for case in 0..count {
-        if case % 1000 == 0 && case > 0 {
-            println!("differential: {case} of {count}");
+    for round in 0..count {
+        if round % (count / 8).max(1000) == 0 && round > 0 {
+            println!("differential: round {round} of {count}");
         }
-        try_all(case, &mut random);
-    }
-    let tool_cases = (count / 10).min(500);
-    if let Some(tool_path) = env::var_os("RUN_TOOL") {
-        let folder = env::temp_dir().join(format!("run-tool-{}", std::process::id()));
-        fs::create_dir_all(&folder).expect("a folder for the run tool");
-        for case in 0..tool_cases {
-            try_tool(case, &mut random, Path::new(&tool_path), &folder);
+        by_chance(&mut tally, &mut random);
+        if round % 10 == 0 {
+            tally.hold(report_case(&mut random));
         }
-        fs::remove_dir_all(&folder).expect("the folder is removed");
-        println!("differential: {tool_cases} reports of the run tool agree");
     }
-    println!("differential: {count} cases of each kind, seed {seed}: the library and the twin agree");
+    if !tally.covers() {
+        println!("differential: an answer came less than {LEAST} times");
+        exit(1);
+    }
+    println!("differential: {} cases, seed {seed}, {count} rounds: the library and the run tool agree with the twin", tally.seen);
 }

@@ -1,0 +1,104 @@
+//! The library against the twin: the same work on the same input, both built for release, in one run. `benchmark [FOLDER]` prints the tables of
+//! docs/MEASURES.md; where its folder is given they are put there, behind the line of MARK, and speed.svg and growth.svg are drawn.
+
+mod pictures;
+mod timing;
+mod works;
+
+use std::path::Path;
+use std::time::Duration;
+use std::{env, fs};
+use timing::Row;
+use twin::machine::Machine;
+use works::*;
+
+const MARK: &str = "<!-- What follows is written by tests/benchmark. -->\n";
+
+/// One kind of work, by how many lines, loops or symbols its input has, and what its time is divided by.
+pub struct Growth {
+    pub name: &'static str,
+    pub by: &'static str,
+    pub each: &'static str,
+    pub points: Vec<(usize, Row)>,
+}
+
+fn micros(time: Duration) -> String {
+    format!("{:.2} µs", time.as_secs_f64() * 1e6)
+}
+
+fn speed() -> Vec<Row> {
+    let largest = nested(16, 480);
+    let moving = moving_word();
+    let first = |length: usize| Machine::fresh(2, 1024, &[vec![b'1'; length]]);
+    vec![
+        reading("read 6 lines", 6, MULTIPLY),
+        reading("read 512 lines", 512, &largest),
+        translating("translate 6 lines", 6, MULTIPLY),
+        translating("translate the largest, 311,044 symbols", 512, &largest),
+        running_source("source run, 1,862 steps", MULTIPLY, &[0, 30, 30]),
+        running_source("source run, 100,000 steps", BUSY, &[0, 100]),
+        running_word("word run, 100,000 steps, 1,000 symbols", 0, &moving, &first(1000)),
+        running_word("word run, 100,000 steps, 60 symbols", 0, &moving, &first(60)),
+        running_word("word run, 100,000 steps, 6 symbols", 0, &moving, &first(6)),
+        running_word("word run, 1 step, 64 registers of 1,024", 0, b"1###", &Machine::fresh(64, 1024, &[])),
+    ]
+}
+
+fn reports() -> Vec<Row> {
+    vec![reporting("report of no runs: start-up", 0), reporting("report of 6 runs", 6), reporting("report of 400 runs", 400)]
+}
+
+/// The work on each of the sizes.
+fn growth<const N: usize>(name: &'static str, by: &'static str, each: &'static str, sizes: [usize; N], work: &dyn Fn(usize) -> Row) -> Growth {
+    Growth { name, by, each, points: sizes.map(|size| (size, work(size))).into() }
+}
+
+fn growths() -> Vec<Growth> {
+    let lines = [8, 16, 32, 64, 128, 256, 512];
+    let depths = [1, 2, 4, 8, 16];
+    let sizes = [1_000, 3_000, 10_000, 30_000, 100_000, 300_000];
+    let deep = |depth: usize| nested(depth, 512 - 2 * depth);
+    let translate = |text: Vec<u8>| translating("", symbols(&text), &text);
+    let machine = Machine::fresh(64, 16, &[]);
+    vec![
+        growth("read plain lines", "lines", "line", lines, &|n| reading("", n, &nested(0, n))),
+        growth("translate plain lines", "lines", "line", lines, &|n| translating("", n, &nested(0, n))),
+        growth("read 512 lines", "loops", "line", depths, &|depth| reading("", 512, &deep(depth))),
+        growth("translate 512 lines", "loops", "symbol", depths, &|depth| translate(deep(depth))),
+        growth("translate in 16 loops", "symbols", "symbol", [10_000, 20_000, 50_000, 100_000, 200_000, 300_000], &|n| translate(in_16_loops(n))),
+        growth("read a word", "symbols", "symbol", sizes, &|n| reading_word("", n, &cases_word(n))),
+        growth("run a word", "symbols", "symbol", sizes, &|n| running_word("", n, &cases_word(n), &machine)),
+    ]
+}
+
+fn speed_table(rows: &[Row]) -> String {
+    let line = |row: &Row| format!("| {} | {} | {} | {:.2} |\n", row.name, micros(row.library), micros(row.twin), row.ratio());
+    format!("| Work | Library | Twin | Ratio |\n|---|---|---|---|\n{}\n", rows.iter().map(line).collect::<String>())
+}
+
+fn growth_table(Growth { name, by, each, points }: &Growth) -> String {
+    let part = |time: Duration, row: &Row| format!("{:.2} ns", time.as_secs_f64() * 1e9 / row.size as f64);
+    let line = |(size, row): &(usize, Row)| {
+        format!("| {size} | {} | {} | {} | {} |\n", micros(row.library), micros(row.twin), part(row.library, row), part(row.twin, row))
+    };
+    let head = format!("| {name}, {by} | Library | Twin | Library, a {each} | Twin, a {each} |\n|---|---|---|---|---|\n");
+    head + &points.iter().map(line).collect::<String>() + "\n"
+}
+
+fn main() {
+    let (speed, reports, growths) = (speed(), reports(), growths());
+    let tables = format!(
+        "\n{}![times of the library, the twin's = 1](speed.svg)\n\n## The whole report\n\n{}## Growth\n\n![times against sizes](growth.svg)\n\n{}",
+        speed_table(&speed),
+        speed_table(&reports),
+        growths.iter().map(growth_table).collect::<String>().trim_end().to_string() + "\n"
+    );
+    print!("{tables}");
+    let Some(folder) = env::args().nth(1) else { return };
+    let file = |name: &str| Path::new(&folder).join(name);
+    let page = fs::read_to_string(file("MEASURES.md")).expect("the page");
+    let (above, _) = page.split_once(MARK).expect("the page's mark");
+    fs::write(file("MEASURES.md"), format!("{above}{MARK}{tables}")).expect("the page can be written");
+    fs::write(file("speed.svg"), pictures::speed(&speed.iter().chain(&reports).collect::<Vec<_>>())).expect("the picture can be written");
+    fs::write(file("growth.svg"), pictures::growth(&growths)).expect("the picture can be written");
+}

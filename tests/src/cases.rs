@@ -1,0 +1,324 @@
+//! A case: one call with all that it is given. The twin and the library each make an outcome of it; one on which they differ can be cut smaller.
+
+#[cfg(feature = "library")]
+use crate::library::{self, RunTool};
+use crate::machine::Machine;
+use crate::program::{self, list, variables, write, Command};
+use crate::source::{self, State};
+use crate::translation::translate;
+use crate::word::{self, spell, Instruction};
+use crate::{refuse, tool, Answer, Refusal};
+use std::fmt;
+use std::iter::successors;
+
+/// What lent outputs are filled with, to see what of them was written.
+const FILL: u8 = 0xa5;
+
+#[derive(Clone)]
+pub enum Program {
+    Text(Vec<u8>),
+    List(Vec<u8>),
+}
+
+impl fmt::Debug for Program {
+    fn fmt(&self, f: &mut fmt::Formatter) -> fmt::Result {
+        match self {
+            Program::Text(text) => write!(f, "\"{}\"", text.escape_ascii()),
+            Program::List(list) => list.fmt(f),
+        }
+    }
+}
+
+impl Program {
+    pub fn read(&self) -> Result<Vec<Command>, Refusal> {
+        match self {
+            Program::Text(text) => program::read(text),
+            Program::List(list) => program::read_list(list),
+        }
+    }
+
+    /// The program in the other form.
+    pub fn converted(&self) -> Result<Vec<u8>, Refusal> {
+        match self {
+            Program::Text(_) => self.read().map(|c| list(&c)),
+            Program::List(_) => self.read().map(|c| write(&c)),
+        }
+    }
+
+    fn shorter(&self) -> Box<dyn Iterator<Item = Program> + '_> {
+        match self {
+            Program::Text(text) => Box::new(shorter(text).map(Program::Text)),
+            Program::List(list) => Box::new(shorter(list).map(Program::List)),
+        }
+    }
+}
+
+/// A call. `lent`, and the two lengths of a word's reading, are the elements of the output. A text is converted to a list, and a list to a text.
+#[derive(Clone)]
+pub enum Case {
+    Convert { program: Program, lent: usize },
+    Translate { program: Program, lent: usize },
+    RunSource { program: Program, state: Vec<u32>, budget: u32 },
+    ReadWord { word: Vec<u8>, kinds: usize, operands: usize },
+    WriteWord { kinds: Vec<u8>, operands: Vec<u32>, lent: usize },
+    RunWord { word: Vec<u8>, machine: Machine, budget: u32 },
+    Report { text: Vec<u8>, sheet: Vec<u8> },
+}
+
+impl fmt::Debug for Case {
+    fn fmt(&self, f: &mut fmt::Formatter) -> fmt::Result {
+        match self {
+            Case::Convert { program, lent } | Case::Translate { program, lent } => write!(f, "{program:?}, lent {lent}"),
+            Case::RunSource { program, state, budget } => write!(f, "{program:?}, state {state:?}, budget {budget}"),
+            Case::ReadWord { word, kinds, operands } => write!(f, "\"{}\", lent {kinds} and {operands}", word.escape_ascii()),
+            Case::WriteWord { kinds, operands, lent } => write!(f, "kinds {kinds:?}, operands {operands:?}, lent {lent}"),
+            Case::RunWord { word, machine, budget } => write!(f, "\"{}\", {machine:?}, budget {budget}", word.escape_ascii()),
+            Case::Report { text, sheet } => write!(f, "\"{}\", sheet \"{}\"", text.escape_ascii(), sheet.escape_ascii()),
+        }
+    }
+}
+
+/// The answer, and all lent memory as it is after the call; for the run tool, what it printed.
+#[derive(PartialEq, Eq, Debug)]
+pub struct Outcome {
+    pub answer: Answer,
+    pub memory: Vec<u32>,
+}
+
+fn numbers<T: Copy + Into<u32>>(items: &[T]) -> Vec<u32> {
+    items.iter().map(|&item| item.into()).collect()
+}
+
+/// A lent output of so many elements, with these at its start.
+fn output(length: usize, start: &[u32]) -> Vec<u32> {
+    let mut lent = start.to_vec();
+    lent.resize(length, FILL.into());
+    lent
+}
+
+fn fits<T>(result: Vec<T>, room: usize) -> Result<Vec<T>, Refusal> {
+    if result.len() > room {
+        return refuse(19, 0);
+    }
+    Ok(result)
+}
+
+/// A result for a lent output; `low` of its elements make one that is counted, and `high` is the other count.
+fn written(result: Result<Vec<u8>, Refusal>, lent: usize, high: usize, low: usize) -> Outcome {
+    match result.and_then(|r| fits(r, lent)) {
+        Ok(bytes) => {
+            let answer = Answer::Done { high: high as u32, low: (bytes.len() / low) as u32 };
+            Outcome { answer, memory: output(lent, &numbers(&bytes)) }
+        }
+        Err(r) => Outcome { answer: Answer::Refused(r), memory: output(lent, &[]) },
+    }
+}
+
+fn memory(machine: &Machine) -> Vec<u32> {
+    let mut memory = numbers(&machine.store);
+    memory.extend(numbers(&machine.lengths));
+    memory.extend([machine.place as u32, machine.steps]);
+    memory
+}
+
+/// Kinds and operands as a table as long as the longer of them; what is missing counts as 0.
+fn zipped(kinds: &[u8], operands: &[u32]) -> Vec<Instruction> {
+    let at = |i: usize| Instruction { kind: kinds.get(i).copied().unwrap_or(0), operand: operands.get(i).copied().unwrap_or(0) };
+    (0..kinds.len().max(operands.len())).map(at).collect()
+}
+
+fn run_source(program: &Program, numbers: &[u32], budget: u32) -> Outcome {
+    let checked = program.read().and_then(|commands| {
+        let Some(state) = State::from_numbers(numbers) else { return refuse(9, 0) };
+        source::check(&commands, &state).map(|()| (commands, state))
+    });
+    match checked {
+        Err(r) => Outcome { answer: Answer::Refused(r), memory: numbers.to_vec() },
+        Ok((commands, mut state)) => {
+            let ran = source::run(&commands, &mut state, budget);
+            Outcome { answer: Answer::Ended(ran.end, ran.steps), memory: state.numbers().to_vec() }
+        }
+    }
+}
+
+fn read_word(word: &[u8], kinds: usize, operands: usize) -> Outcome {
+    let read = word::read(word).and_then(|table| fits(table, kinds.min(operands)));
+    let table = read.as_deref().unwrap_or_default();
+    let of_kinds: Vec<_> = table.iter().map(|i| u32::from(i.kind)).collect();
+    let of_operands: Vec<_> = table.iter().map(|i| i.operand).collect();
+    let memory = [output(kinds, &of_kinds), output(operands, &of_operands)].concat();
+    let answer = read.map_or_else(Answer::Refused, |table| Answer::Done { high: 0, low: table.len() as u32 });
+    Outcome { answer, memory }
+}
+
+fn run_word(word: &[u8], from: &Machine, budget: u32) -> Outcome {
+    let mut machine = from.clone();
+    let answer = match machine.accept(word) {
+        Err(r) => Answer::Refused(r),
+        Ok(table) => {
+            let (end, steps) = machine.run(&table, budget);
+            Answer::Ended(end, steps)
+        }
+    };
+    Outcome { answer, memory: memory(&machine) }
+}
+
+fn printed(text: &str) -> Outcome {
+    let answer = match tool::refusal(text) {
+        Some(r) => Answer::Refused(r),
+        None => Answer::Done { high: 0, low: text.len() as u32 },
+    };
+    Outcome { answer, memory: numbers(text.as_bytes()) }
+}
+
+impl Case {
+    pub fn name(&self) -> &'static str {
+        match self {
+            Case::Convert { program: Program::Text(_), .. } => "read a text",
+            Case::Convert { program: Program::List(_), .. } => "write a list",
+            Case::Translate { program: Program::Text(_), .. } => "translate a text",
+            Case::Translate { program: Program::List(_), .. } => "translate a list",
+            Case::RunSource { program: Program::Text(_), .. } => "run a text",
+            Case::RunSource { program: Program::List(_), .. } => "run a list",
+            Case::ReadWord { .. } => "read a word",
+            Case::WriteWord { .. } => "write a word",
+            Case::RunWord { .. } => "run a word",
+            Case::Report { .. } => "the run tool",
+        }
+    }
+
+    pub fn twin(&self) -> Outcome {
+        match self {
+            Case::Convert { program, lent } => match program {
+                Program::Text(_) => written(program.converted(), *lent, program.read().map_or(0, |c| variables(&c)), 3),
+                Program::List(_) => written(program.converted(), *lent, 0, 1),
+            },
+            Case::Translate { program, lent } => {
+                let table = program.read().map(|c| translate(&c));
+                let high = table.as_ref().map_or(0, |t| t.len());
+                written(table.map(|t| spell(&t)), *lent, high, 1)
+            }
+            Case::RunSource { program, state, budget } => run_source(program, state, *budget),
+            Case::ReadWord { word, kinds, operands } => read_word(word, *kinds, *operands),
+            Case::WriteWord { kinds, operands, lent } => {
+                let table = zipped(kinds, operands);
+                written(word::check_table(&table).map(|()| spell(&table)), *lent, 0, 1)
+            }
+            Case::RunWord { word, machine, budget } => run_word(word, machine, *budget),
+            Case::Report { text, sheet } => printed(&tool::report(text, sheet)),
+        }
+    }
+
+    #[cfg(feature = "library")]
+    pub fn library(&self, tool: &RunTool) -> Outcome {
+        let bytes = |lent: usize, call: &dyn Fn(&mut [u8]) -> Answer| {
+            let mut out = vec![FILL; lent];
+            Outcome { answer: call(&mut out), memory: numbers(&out) }
+        };
+        match self {
+            Case::Convert { program: Program::Text(text), lent } => bytes(*lent, &|out| library::read_program(text, out)),
+            Case::Convert { program: Program::List(list), lent } => bytes(*lent, &|out| library::write_program(list, out)),
+            Case::Translate { program: Program::Text(text), lent } => bytes(*lent, &|out| library::translate(text, out)),
+            Case::Translate { program: Program::List(list), lent } => bytes(*lent, &|out| library::translate_list(list, out)),
+            Case::RunSource { program, state, budget } => {
+                let mut memory = state.clone();
+                let answer = match program {
+                    Program::Text(text) => library::run_source(text, &mut memory, *budget),
+                    Program::List(list) => library::run_source_list(list, &mut memory, *budget),
+                };
+                Outcome { answer, memory }
+            }
+            Case::ReadWord { word, kinds, operands } => {
+                let (mut of_kinds, mut of_operands) = (vec![FILL; *kinds], vec![u32::from(FILL); *operands]);
+                let answer = library::read_word(word, &mut of_kinds, &mut of_operands);
+                Outcome { answer, memory: [numbers(&of_kinds), of_operands].concat() }
+            }
+            Case::WriteWord { kinds, operands, lent } => bytes(*lent, &|out| library::write_word(kinds, operands, out)),
+            Case::RunWord { word, machine, budget } => {
+                let mut machine = machine.clone();
+                let answer = library::run_word(&mut machine, word, *budget);
+                Outcome { answer, memory: memory(&machine) }
+            }
+            Case::Report { text, sheet } => printed(&tool.run(text, sheet)),
+        }
+    }
+
+    /// Cases with a little less in them.
+    pub fn smaller(&self) -> Box<dyn Iterator<Item = Case> + '_> {
+        match self {
+            Case::Convert { program, lent } => {
+                let programs = program.shorter().map(|program| Case::Convert { program, lent: *lent });
+                Box::new(programs.chain(less(*lent).map(|lent| Case::Convert { program: program.clone(), lent })))
+            }
+            Case::Translate { program, lent } => {
+                let programs = program.shorter().map(|program| Case::Translate { program, lent: *lent });
+                Box::new(programs.chain(less(*lent).map(|lent| Case::Translate { program: program.clone(), lent })))
+            }
+            Case::RunSource { program, state, budget } => {
+                let programs = program.shorter().map(|program| Case::RunSource { program, state: state.clone(), budget: *budget });
+                let states = lower(state).map(|state| Case::RunSource { program: program.clone(), state, budget: *budget });
+                let budgets = less(*budget as usize).map(|b| Case::RunSource { program: program.clone(), state: state.clone(), budget: b as u32 });
+                Box::new(programs.chain(states).chain(budgets))
+            }
+            Case::ReadWord { word, kinds, operands } => {
+                let words = shorter(word).map(|word| Case::ReadWord { word, kinds: *kinds, operands: *operands });
+                Box::new(words.chain(less(*kinds).map(|kinds| Case::ReadWord { word: word.clone(), kinds, operands: *operands })))
+            }
+            Case::WriteWord { kinds, operands, lent } => {
+                let tables = shorter(kinds).zip(shorter(operands)).map(|(kinds, operands)| Case::WriteWord { kinds, operands, lent: *lent });
+                Box::new(tables.chain(lower(operands).map(|operands| Case::WriteWord { kinds: kinds.clone(), operands, lent: *lent })))
+            }
+            Case::RunWord { word, machine, budget } => {
+                let words = shorter(word).map(|word| Case::RunWord { word, machine: machine.clone(), budget: *budget });
+                let machines = emptier(machine).into_iter().map(|machine| Case::RunWord { word: word.clone(), machine, budget: *budget });
+                let budgets = less(*budget as usize).map(|b| Case::RunWord { word: word.clone(), machine: machine.clone(), budget: b as u32 });
+                Box::new(words.chain(machines).chain(budgets))
+            }
+            Case::Report { text, sheet } => {
+                let texts = shorter(text).map(|text| Case::Report { text, sheet: sheet.clone() });
+                Box::new(texts.chain(shorter(sheet).map(|sheet| Case::Report { text: text.clone(), sheet })))
+            }
+        }
+    }
+}
+
+/// What is left when one piece is cut out, largest pieces first.
+fn shorter<T: Clone>(items: &[T]) -> impl Iterator<Item = Vec<T>> + '_ {
+    let pieces = successors(Some(items.len()), |n| Some(n / 2)).take_while(|&n| n > 0);
+    pieces.flat_map(move |piece| (0..items.len()).step_by(piece).map(move |at| [&items[..at], &items[(at + piece).min(items.len())..]].concat()))
+}
+
+fn less(n: usize) -> impl Iterator<Item = usize> {
+    [0, n / 2, n.saturating_sub(1)].into_iter().filter(move |&m| m < n)
+}
+
+/// One of the numbers lowered.
+fn lower(numbers: &[u32]) -> impl Iterator<Item = Vec<u32>> + '_ {
+    let with = |at: usize, n: usize| [&numbers[..at], &[n as u32], &numbers[at + 1..]].concat();
+    (0..numbers.len()).flat_map(move |at| less(numbers[at] as usize).map(move |n| with(at, n)))
+}
+
+/// Fewer steps, the first place, a register emptied, the last register gone.
+fn emptier(machine: &Machine) -> Vec<Machine> {
+    let mut found: Vec<Machine> = less(machine.steps as usize).map(|n| Machine { steps: n as u32, ..machine.clone() }).collect();
+    if machine.place != 1 {
+        found.push(Machine { place: 1, ..machine.clone() });
+    }
+    if machine.store.len() != machine.registers * machine.capacity || machine.lengths.len() != machine.registers {
+        return found;
+    }
+    for at in (0..machine.registers).filter(|&at| machine.lengths[at] > 0) {
+        let mut emptied = machine.clone();
+        emptied.lengths[at] = 0;
+        emptied.store[at * machine.capacity..(at + 1) * machine.capacity].fill(0);
+        found.push(emptied);
+    }
+    if machine.registers > 1 {
+        let mut fewer = machine.clone();
+        fewer.registers -= 1;
+        fewer.lengths.truncate(fewer.registers);
+        fewer.store.truncate(fewer.registers * fewer.capacity);
+        found.push(fewer);
+    }
+    found
+}

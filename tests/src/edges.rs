@@ -1,0 +1,363 @@
+//! Cases at the limits: the last thing that each rule lets pass and the first that it turns down, alone and with faults of other rules.
+
+use crate::machine::{self, Machine};
+use crate::program::{self, list, read, variables, Command, Kind};
+use crate::source::{self, State};
+use crate::tool::WORD_BYTES;
+use crate::translation::translate;
+use crate::word::{spell, INSTRUCTIONS, SYMBOLS};
+
+/// Indices at the limit and where numbers of 8, 32 or 64 bits start anew.
+const INDICES: [&str; 10] =
+    ["0", "9", "31", "32", "256", "287", "4294967296", "4294967327", "18446744073709551616", "340282366920938463463374607431768211456"];
+
+/// Lines that are nearly a spelling.
+pub const NEARLY: [&str; 40] = [
+    "",
+    " ",
+    "X",
+    "X0",
+    "X0 <-",
+    "X0 <- ",
+    "X <- 0",
+    "x0 <- 0",
+    "X0 <-0",
+    "X0<- 0",
+    " X0 <- 0",
+    "X0 <- 0 ",
+    "X0  <- 0",
+    "X0 <- 00",
+    "X0 <- 1",
+    "X00 <- 0",
+    "X0 <- X00",
+    "X0 <- X",
+    "X0 <- X0 + 2",
+    "X0 <- X0 + 10",
+    "X0 <- X0 +1",
+    "X0 <- X1 + 1",
+    "X0 <- X0 + 1 ",
+    "X-1 <- 0",
+    "X0 <- 0\r",
+    "X0 <- 0\t",
+    "\0",
+    "loop",
+    "loop ",
+    "loop X",
+    "loop  X0",
+    "loop X0 ",
+    "loop x0",
+    "LOOP X0",
+    "endloop",
+    "endloopX0",
+    "while X0",
+    "while X0 != 1",
+    "while X0 !=0",
+    "endwhile X0 != 00",
+];
+
+/// Programs that halt, go on for ever, or get full, each with the values that it starts from.
+pub const SAMPLES: [(&[u8], &[u32]); 9] = [
+    (b"", &[]),
+    (b"loop X1\nX0 <- X0 + 1\nendloop X1\n", &[0, 3]),
+    (b"loop X0\nendloop X0\n", &[2]),
+    (b"X0 <- X1\nX1 <- 0\nX2 <- X2\n", &[1, 2, 3]),
+    (b"while X1 != 0\nX1 <- 0\nendwhile X1 != 0\n", &[0, 5]),
+    (b"loop X0\nX0 <- 0\nloop X1\nendloop X1\nwhile X0 != 0\nendwhile X0 != 0\nendloop X0\n", &[2, 2]),
+    (b"while X0 != 0\nX1 <- X0\nendwhile X0 != 0\n", &[1]),
+    (b"X0 <- X0 + 1\nX0 <- X0 + 1\n", &[4]),
+    (b"loop X0\nX0 <- X0 + 1\nX1 <- X0\nendloop X0\n", &[4]),
+];
+
+fn values(start: &[u32]) -> [u32; 32] {
+    let mut values = [0; 32];
+    values[..start.len()].copy_from_slice(start);
+    values
+}
+
+fn lines(lines: &[String]) -> Vec<u8> {
+    lines.iter().flat_map(|line| line.bytes().chain([b'\n'])).collect()
+}
+
+/// So many pairs inside one another; every second one, or each, is a WHILE or none is.
+fn nest(depth: usize, whiles: usize) -> Vec<Command> {
+    let kind = |at: usize| if at % 2 < whiles { Kind::While } else { Kind::Loop };
+    let opens = (0..depth).map(|at| Command::Open(kind(at), at as u64));
+    let closes = (0..depth).rev().map(|at| Command::Close(kind(at), at as u64));
+    opens.chain(closes).collect()
+}
+
+fn nests() -> Vec<Vec<Command>> {
+    let mut found = Vec::new();
+    for (depth, whiles) in [1, 2, 15, 16, 17].into_iter().flat_map(|depth| [0, 1, 2].map(|whiles| (depth, whiles))) {
+        let whole = nest(depth, whiles);
+        let mut wrong = whole.clone();
+        wrong[depth] = Command::Close(Kind::Loop, 31);
+        let mut beside = whole.clone();
+        beside.splice(depth..depth, nest(1, whiles));
+        found.extend([whole[..depth].to_vec(), whole[..depth + 1].to_vec(), whole[depth..].to_vec(), whole, wrong, beside]);
+    }
+    found
+}
+
+/// Accepted programs whose words are as long as the run tool's buffer, or nearly, or longer.
+pub fn long_words() -> Vec<Vec<Command>> {
+    let symbols = |commands: &[Command]| spell(&translate(commands)).len();
+    let to = |length: usize| {
+        let mut commands = Vec::new();
+        while symbols(&commands) + 300 < length {
+            commands.push(Command::Copy { to: 31, from: 30 });
+        }
+        while symbols(&commands) < length {
+            let rest = length - symbols(&commands);
+            let index = if rest <= 33 { rest - 2 } else { (rest - 4).min(31) };
+            commands.push(Command::Increment(index as u64));
+        }
+        commands
+    };
+    [WORD_BYTES - 1, WORD_BYTES, WORD_BYTES + 1, WORD_BYTES + 2].map(to).to_vec()
+}
+
+/// Programs as commands, good or not.
+pub fn programs() -> Vec<Vec<Command>> {
+    let mut found = nests();
+    for count in [0, 1, 511, 512, 513, 514] {
+        found.push(vec![Command::Increment(31); count]);
+        let mut faulty = vec![Command::Copy { to: 0, from: 31 }; count];
+        faulty.extend([Command::Clear(32), Command::Close(Kind::Loop, 0)]);
+        found.push(faulty);
+    }
+    found.push(
+        [vec![Command::Open(Kind::Loop, 31); 16], vec![Command::Copy { to: 31, from: 30 }; 480], vec![Command::Close(Kind::Loop, 31); 16]].concat(),
+    );
+    found.extend(long_words());
+    found
+}
+
+/// Program texts, good or not.
+pub fn texts() -> Vec<Vec<u8>> {
+    let mut found: Vec<_> = programs().iter().map(|p| program::write(p)).collect();
+    for a in INDICES {
+        found.push(lines(&[format!("X{a} <- 0")]));
+        found.push(lines(&[format!("X{a} <- X{a}")]));
+        found.push(lines(&[format!("loop X{a}"), format!("endloop X{a}")]));
+        found.push(lines(&[format!("while X{a} != 0"), format!("endwhile X{a} != 0")]));
+        for b in INDICES {
+            found.push(lines(&[format!("X{a} <- X{b}")]));
+            found.push(lines(&[format!("X{a} <- X{b} + 1")]));
+            found.push(lines(&[format!("loop X{a}"), format!("endloop X{b}")]));
+        }
+    }
+    for line in NEARLY {
+        found.push(line.into());
+        found.push(lines(&[line.into()]));
+        found.push(lines(&["X0 <- 0".into(), "loop X1".into(), line.into(), "X32 <- 0".into()]));
+        found.push(lines(&["endloop X1".into(), line.into()]));
+    }
+    for size in program::BYTES - 1..=program::BYTES + 2 {
+        for byte in [b'\n', b'X', b'7', b'\0', 0xff] {
+            let mut text = vec![byte; size];
+            text[0] = b'X';
+            found.push(text.clone());
+            text[size - 6..].copy_from_slice(b" <- 0\n");
+            found.push(text);
+        }
+    }
+    let cut = |text: &Vec<u8>| text[..text.len().saturating_sub(1)].to_vec();
+    let cuts: Vec<_> = found.iter().filter(|t| t.len() < 99 || t.len() > 4000).map(cut).collect();
+    found.extend(cuts);
+    found
+}
+
+/// Programs as lists of numbers, good or not.
+pub fn lists() -> Vec<Vec<u8>> {
+    let mut found: Vec<_> = programs().iter().map(|p| list(p)).collect();
+    let cut: Vec<_> = found.iter().flat_map(|l| [1, 2].map(|n| l[..l.len().saturating_sub(n)].to_vec())).collect();
+    found.extend(cut);
+    for kind in [0, 1, 2, 3, 4, 5, 6, 7, 8, 255] {
+        for (index, third) in [0, 31, 32, 255].into_iter().flat_map(|i| [0, 1, 31, 32, 255].map(|t| (i, t))) {
+            found.push(vec![kind, index, third]);
+            found.push(vec![4, index, 0, kind, index, third, 5, index, 0]);
+        }
+    }
+    found
+}
+
+/// Words, good or not.
+pub fn words() -> Vec<Vec<u8>> {
+    let ones = |n: usize, marks: usize| [vec![b'1'; n], vec![b'#'; marks]].concat();
+    let mut found = vec![Vec::new(), vec![b'#'], vec![b'1'], vec![0]];
+    let most = SYMBOLS as usize;
+    for marks in 1..=6 {
+        found.extend([ones(0, marks), ones(1, marks), ones(64, marks), ones(65, marks), [ones(1, 1), ones(2, marks), ones(1, 0)].concat()]);
+        found.extend([most - 1, most, most + 1].map(|n| ones(n - marks, marks)));
+    }
+    for count in [INSTRUCTIONS - 1, INSTRUCTIONS, INSTRUCTIONS + 1] {
+        for (operand, marks) in [(1, 3), (2, 3), (65, 1), (64, 5)] {
+            let word = ones(operand, marks).repeat(count);
+            found.extend([[&word[..], b"######"].concat(), [&word[..], b"1"].concat(), [&word[..], b"2"].concat(), word]);
+        }
+    }
+    let mut late = ones(most - 1, 1);
+    late[most - 1] = b'2';
+    found.push(late);
+    found.extend(SAMPLES.iter().filter_map(|(text, _)| Some(spell(&translate(&read(text).ok()?)))));
+    found
+}
+
+/// Kinds and operands, good or not, of the same number or not.
+pub fn tables() -> Vec<(Vec<u8>, Vec<u32>)> {
+    let most = SYMBOLS as u32;
+    let mut found = vec![(vec![], vec![]), (vec![1], vec![]), (vec![], vec![1]), (vec![1, 1], vec![1]), (vec![1], vec![1, 1])];
+    for kind in [0, 1, 2, 3, 4, 5, 6, 255] {
+        for operand in [0, 1, 64, most - 6, most - 5, most - 1, most, u32::MAX - 254, u32::MAX - 1, u32::MAX] {
+            found.extend([(vec![kind], vec![operand]), (vec![3, kind], vec![1, operand]), (vec![kind, 1], vec![operand, u32::MAX])]);
+        }
+    }
+    for count in [INSTRUCTIONS - 1, INSTRUCTIONS, INSTRUCTIONS + 1] {
+        for (kind, operand) in [(1, 1), (5, 68), (5, 69), (0, 1), (1, 0)] {
+            found.push((vec![kind; count], vec![operand; count]));
+            found.push((vec![kind; count], vec![operand; INSTRUCTIONS]));
+        }
+    }
+    found
+}
+
+/// Machines with small stores whose sizes or layout are at or past a limit.
+pub fn machines() -> Vec<Machine> {
+    let good = Machine::fresh(3, 4, &[b"1#11".to_vec(), b"#".to_vec()]);
+    let mut found = vec![good.clone()];
+    for registers in [0, 1, 2, 4, machine::REGISTERS, machine::REGISTERS + 1, u32::MAX as usize] {
+        found.push(Machine { registers, ..good.clone() });
+        found.push(Machine { registers, ..Machine::fresh(registers.min(99), 4, &[]) });
+    }
+    for capacity in [0, 1, 3, 5, machine::CAPACITY, machine::CAPACITY + 1, 1 << 26, 1 << 30, u32::MAX as usize] {
+        found.push(Machine { capacity, ..good.clone() });
+        found.push(Machine { capacity, ..Machine::fresh(3, capacity.min(2000), &[]) });
+        found.push(Machine { registers: 64, capacity, store: Vec::new(), ..Machine::fresh(64, 1, &[]) });
+    }
+    for length in [0, 1, 2, 3, 4, 5, 255, 256, 260, u16::MAX] {
+        for at in 0..3 {
+            let mut machine = good.clone();
+            machine.lengths[at] = length;
+            found.push(machine);
+        }
+    }
+    for (at, byte) in (0..12).flat_map(|at| [0, b'1', b'#', b'2', b'0', 0xff].map(|byte| (at, byte))) {
+        let mut machine = good.clone();
+        machine.store[at] = byte;
+        found.push(machine);
+    }
+    for cut in 0..3 {
+        found.push(Machine { lengths: good.lengths[..cut].to_vec(), ..good.clone() });
+        found.push(Machine { store: good.store[..12 - cut - 1].to_vec(), ..good.clone() });
+    }
+    found.push(Machine { lengths: vec![0; 4], ..good.clone() });
+    found.push(Machine { store: vec![0; 13], ..good });
+    found
+}
+
+/// States of a sample program as numbers, each of them put at or past a limit.
+pub fn states(commands: &[Command], start: &[u32]) -> Vec<Vec<u32>> {
+    let fresh = State::fresh(5, values(start)).numbers().to_vec();
+    let mut found = vec![fresh.clone(), fresh[..50].to_vec(), Vec::new(), [&fresh[..], &[0]].concat()];
+    let lines = commands.len() as u32;
+    for line in (0..lines + 3).chain([u32::MAX]) {
+        for passes in [[0, 0], [1, 0], [5, 5], [6, 0], [1, 6], [0, 1], [u32::MAX, 0]] {
+            let mut state = fresh.clone();
+            state[1] = line;
+            state[35..37].copy_from_slice(&passes);
+            found.push(state);
+        }
+    }
+    let k = variables(commands);
+    for (at, value) in [(0, 0), (0, 1), (0, source::CAPACITY), (0, source::CAPACITY + 1), (0, u32::MAX), (2, u32::MAX), (50, 1), (37, 1)] {
+        let mut state = fresh.clone();
+        state[at] = value;
+        found.push(state);
+    }
+    for (at, value) in (0..=k.min(31)).flat_map(|at| [0, 1, 5, 6, u32::MAX].map(|value| (3 + at, value))) {
+        let mut state = fresh.clone();
+        state[at] = value;
+        found.push(state);
+    }
+    found
+}
+
+/// The fresh state and the fresh machine of a sample, with room for 5.
+pub fn fresh(commands: &[Command], start: &[u32]) -> (State, Machine) {
+    let ones: Vec<_> = start[..variables(commands).min(start.len())].iter().map(|&v| vec![b'1'; v as usize]).collect();
+    (State::fresh(5, values(start)), Machine::fresh(machine::REGISTERS, 5, &ones))
+}
+
+/// Sheets for a program of variables X0 to X3, good or not.
+pub fn sheets() -> Vec<Vec<u8>> {
+    let mut found: Vec<Vec<u8>> = [
+        "",
+        "\n",
+        "\n\n",
+        "\n\n\n",
+        "\n0\n",
+        "X1",
+        "X1\n",
+        "X1\n\n",
+        "X1\n1",
+        "X1\n1\n",
+        "X1\n1 2\n",
+        "X1 X2\n1\n",
+        "X1 X2\n1 2\n",
+        " X1\n",
+        "X1 \n",
+        "X1  X2\n",
+        "X1,X2\n",
+        "x1\n",
+        "X\n",
+        "X01\n",
+        "X3\n",
+        "X4\n",
+        "X32\n",
+        "X4294967297\n",
+        "X18446744073709551617\n",
+        "X1 X1\n",
+        "X1 X2 X1\n",
+        "X4 \n",
+        "X4\n1 1\n",
+        "X1\n1025 1\n",
+        "X1\n1024\n",
+        "X1\n1025\n",
+        "X1\n01\n",
+        "X1\n00\n",
+        "X1\n-1\n",
+        "X1\n+1\n",
+        "X1\n1 \n",
+        "X1\n 1\n",
+        "X1\n4294967297\n",
+        "X1\n1\n1025\n1 1\n",
+        "X1\n18446744073709551617\n",
+        "X1\n1\n1 1\n1025\n",
+        "X1\r\n1\r\n",
+        "X0 X1 X2 X3\n1024 1024 1024 1024\n",
+        "X3 X2 X1 X0\n4 3 2 1\n",
+        "X1\n1\0\n",
+    ]
+    .map(|s| s.into())
+    .to_vec();
+    for size in [crate::sheet::BYTES - 1, crate::sheet::BYTES, crate::sheet::BYTES + 1] {
+        found.push(vec![b'\n'; size]);
+        found.push([b"X1\n".to_vec(), vec![b'9'; size - 4], b"\n".to_vec()].concat());
+        found.push([b"X1\n".to_vec(), vec![b'9'; size - 3]].concat());
+    }
+    found
+}
+
+/// Programs and sheets for the run tool: a source that halts after exactly its budget of steps, and one step later; then a word so.
+pub fn budgets() -> [(String, &'static str); 4] {
+    let passes = "loop X1\nloop X2\nendloop X2\nendloop X1\n";
+    let of_source = "X1 X2\n369 269\n";
+    let of_word = "X1 X2 X3\n369 299 738\n";
+    [
+        (passes.into(), of_source),
+        (format!("{passes}X0 <- X0 + 1\n"), of_source),
+        (format!("{passes}X3 <- 0\nX0 <- X0 + 1\n"), of_word),
+        (format!("{passes}X3 <- 0\nX0 <- X0 + 1\nX0 <- X0 + 1\n"), of_word),
+    ]
+}
