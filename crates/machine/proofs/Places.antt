@@ -14,16 +14,13 @@ use Rattle.theory.specs.Basics.{all-below}
 use Rattle.theory.specs.Machines.{is-laid, offset}
 use Rattle.theory.proofs.GoodMemory.{offset-suc}
 use Rattle.machine.specs.Held.{places-laid}
+use Rattle.machine.proofs.Lists.{and-false}
 
 -- The place of register i, counted from 0, lies in a store of k places
 pub place-ends : (i k capacity : ℕ) → i < k → i * capacity + capacity ≤ k * capacity
 place-ends i k capacity h =
     let m : suc i * capacity ≤ k * capacity = mul-le-mul-right capacity h in
     omega (arith, suc-mul i capacity)
-
-and-false : (b : Bool) → (b && false) ≡ false
-and-false true = refl
-and-false false = refl
 
 below-fails : (g : ℕ → Bool) (n i : ℕ) → i < n → g i ≡ false → all-below n g ≡ false
 below-fails g zero i h t = absurd (omega arith)

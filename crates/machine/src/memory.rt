@@ -10,35 +10,37 @@ ghost use Rattle.machine.specs.Calls.{memory};
 use crate::answers::Machine;
 use crate::store::wide;
 
-// Whether each byte of a part is `1` or `#`.
+// Whether each byte of a part is `1` or `#`. All are looked at, whatever the first are: without an early end many are tested at once.
 fn symbols(part: &[u8]) -> bool
     ensures { λ r. ⌜ r ≡ all is-symbol (now (part .entry)) ⌝ }
 {
+    let mut ok = true;
     let mut i: usize = 0;
     while i < part.len() {
         let b = part[i];
         if b != 49 {
             if b != 35 {
-                return false;
+                ok = false;
             }
         }
         i += 1;
     }
-    true
+    ok
 }
 
 // Whether each byte of a part is 0.
 fn zeros(part: &[u8]) -> bool
     ensures { λ r. ⌜ r ≡ all (eqb 0) (now (part .entry)) ⌝ }
 {
+    let mut ok = true;
     let mut i: usize = 0;
     while i < part.len() {
         if part[i] != 0 {
-            return false;
+            ok = false;
         }
         i += 1;
     }
-    true
+    ok
 }
 
 // Whether a register's place is laid out with a length of n: n symbols, and byte 0 after them.

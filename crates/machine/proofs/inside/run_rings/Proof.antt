@@ -31,9 +31,11 @@ allowance-requires c κs = search needs
 loop-holds : tie.Need-loop-holds Inv-loop μ-loop
 loop-holds c =
     let a = c .before .before .before .before .before .before .args in
-    let p = c .before .before .before .before .before .before .pre in
-    (running-start (a .capacity) (a .store .now) (a .lengths .now) (a .kinds .now) (a .operands .now) (a .from) (a .steps) (a .budget)
-    (c .allowance .result) (a .starts .now) (p .0) (p .1) (omega (arith, p .3, p .2 .count)), refl)
+    let p = c .before .before .before .before .before .before .pre in (
+      running-start (a .capacity) (a .store .now) (a .lengths .now) (a .kinds .now) (a .operands .now) (a .from) (a .steps) (a .budget)
+          (c .allowance .result) (a .starts .now) (p .0) (p .1) (omega (arith, p .3, p .2 .count)),
+      refl,
+    )
 
 end-past-requires : tie.Need-end-past-requires Inv-loop μ-loop
 end-past-requires c κs = search needs
@@ -167,16 +169,18 @@ loop-again c =
     let u = c .before .before .before .before .before .before .before .before .before .before .before .before .before .before .before .before .before .before .before .before .before .before .before .before .before .pre .2 in
     let al = c .before .before .before .before .before .before .before .before .before .before .before .before .before .before .before .before .before .before .before .allowance in
     let r = h .loop .inv .0 in
-    let q = c .before .before .before .before .before .before .before .before .before .perform in
-    (running-step (a .capacity) (a .store .now) (a .lengths .now) (a .kinds .now) (a .operands .now) (a .from) (a .steps) (a .budget)
-    (al .result) r u (c .before .before .before .before .before .before .before .before .before .before .before .before .before .before .before .before .before .loop-test .taken) (c .before .before .before .before .before .before .before .before .before .before .before .before .before .before .before .before .if1 .left) (al .ensures)
-    (omega (arith, r .done, c .before .before .before .before .before .before .before .before .before .before .before .before .before .before .before .if2 .left))
-    (c .before .there .given .0 .0)
-    (λ i k o. subst
-    (λ (x : Step). Performed (a .capacity) (r .registers) (h .loop .here) i x (q .last .0) (q .last .1 .0) (q .last .1 .1 .0))
-    (c .before .there .given .1)
-    (q .ensures (r .registers) i k o (r .held)))
-    (u .count) (q .kept .0) (q .kept .1 .0), q .kept .1 .1 .0 ∙ h .loop .inv .1)
+    let q = c .before .before .before .before .before .before .before .before .before .perform in (
+      running-step (a .capacity) (a .store .now) (a .lengths .now) (a .kinds .now) (a .operands .now) (a .from) (a .steps) (a .budget)
+          (al .result) r u (c .before .before .before .before .before .before .before .before .before .before .before .before .before .before .before .before .before .loop-test .taken) (c .before .before .before .before .before .before .before .before .before .before .before .before .before .before .before .before .if1 .left) (al .ensures)
+          (omega (arith, r .done, c .before .before .before .before .before .before .before .before .before .before .before .before .before .before .before .if2 .left))
+          (c .before .there .given .0 .0)
+          (λ i k o. subst
+          (λ (x : Step). Performed (a .capacity) (r .registers) (h .loop .here) i x (q .last .0) (q .last .1 .0) (q .last .1 .1 .0))
+          (c .before .there .given .1)
+          (q .ensures (r .registers) i k o (r .held)))
+          (u .count) (q .kept .0) (q .kept .1 .0),
+      q .kept .1 .1 .0 ∙ h .loop .inv .1,
+    )
 
 stopped-requires-4 : tie.Need-stopped-requires-4 Inv-loop μ-loop
 stopped-requires-4 c κs = search needs
