@@ -1,19 +1,21 @@
 -- A place of ones, byte by byte; a store filled place by place; lengths filled one by one.
 use mathlib.Core.Path.{_≡_, refl, sym, ap, ap₂, _∙_}
+use mathlib.Core.Logic.{_≢_}
 use mathlib.Core.Bool.{Bool, true, false}
 use mathlib.Core.List.{List, _++_, append-assoc}
 use Prim.Native.Nat.{ℕ, zero, suc, _+_, _*_, _-_, _≤_, _<_}
 use native.Mathlib.Numerals.{add-one}
 use native.Mathlib.Omega.{arith}
-use lib.Dec.{ltb}
+use borrow.Author.Tests.{eqb-true, eqb-false, ltb-true, ltb-false}
+use lib.Dec.{eqb, ltb}
 use lib.ListN.{length, take, drop, set, getD, replicate, length-append, length-drop, length-replicate, length-set}
-use lib.Seq.{take-suc, take-suc-set, take-at, take-all, length-take-le}
+use lib.Seq.{take-suc, take-suc-set, take-at, take-all, length-take-le, getD-set-same, getD-set-other, ext-getD}
 use borrow.Rule.Slice.PartMut.{putMid, same-len-mid}
 use Rattle.theory.specs.Text.{Bytes}
 use Rattle.theory.specs.Word.{Symbol, bytes-of}
 use Rattle.theory.specs.Machines.{ones, holding, laid, store-of, lengths-of}
 use Rattle.theory.proofs.GoodMemory.{length-laid, length-cells, getD-cells}
-use Rattle.report.specs.Fresh.{Lent, Filled}
+use Rattle.report.specs.Fresh.{Lent, Filled, Spread}
 
 pub one-at : (m n i : ℕ) → i < n → 49 ≡ getD (bytes-of (ones n) ++ replicate m 0) i 0
 one-at m zero i h = absurd (omega arith)
@@ -37,6 +39,41 @@ agrees-next l i v w h k same e = rw (add-one i, take-suc-set l i v h, take-suc w
 
 pub length-ones : (n : ℕ) → length (ones n) ≡ n
 length-ones n = length-replicate n _
+
+-- A byte spread from a place on: none of it, one more, and ones with zeros after them
+pub spread-none : (from b : ℕ) (l : Bytes) → Spread from from b l l
+spread-none from b l = record { same = refl; kept = λ k h. refl; filled = λ k h m. absurd (omega arith) }
+
+pub spread-next : {from i b : ℕ} {before l : Bytes} → from ≤ i → i < length l → Spread from i b before l → Spread from (i + 1) b before (set l i b)
+spread-next {from} {i} {b} {before} {l} up inside s = record {
+  same = length-set l i b ∙ s .same;
+  kept = λ k h. getD-set-other l i k b 0 (λ e. absurd (omega arith)) ∙ s .kept k h;
+  filled = λ k h m. go k h m (eqb k i) refl;
+}
+  where
+    go : (k : ℕ) → from ≤ k → k < i + 1 → (t : Bool) → eqb k i ≡ t → getD (set l i b) k 0 ≡ b
+    go k h m true e = rw (eqb-true k i e) (getD-set-same l i b 0 inside)
+    go k h m false e =
+        let differ : k ≢ i = eqb-false k i e in
+        getD-set-other l i k b 0 differ ∙ s .filled k h (omega (arith, differ))
+
+pub spread-laid : {first middle last : Bytes} (n : ℕ) → n ≤ length first → Spread 0 n 49 first middle → Spread n (length first) 0 middle last
+    → last ≡ laid (length first) (ones n)
+spread-laid {first} {middle} {last} n h s t = ext-getD 0 last (laid (length first) (ones n)) (t .same ∙ s .same ∙ sym size) each
+  where
+    size : length (laid (length first) (ones n)) ≡ length first
+    size = length-laid (length first) (ones n) (omega (arith, length-ones n))
+
+    each : (k : ℕ) → k < length last → getD last k 0 ≡ getD (laid (length first) (ones n)) k 0
+    each k l = go (ltb k n) refl
+      where
+        go : (b : Bool) → ltb k n ≡ b → getD last k 0 ≡ getD (laid (length first) (ones n)) k 0
+        go true e =
+            let low : k < n = ltb-true k n e in
+            t .kept k low ∙ s .filled k (omega arith) low ∙ one-at (length first - length (ones n)) n k low
+        go false e =
+            let high : n ≤ k = ltb-false k n e in
+            t .filled k high (omega (arith, t .same, s .same)) ∙ zero-at (length first - length (ones n)) n k high
 
 -- One place more of a store
 pub store-next : (capacity i j k : ℕ) (f : ℕ → List Symbol) (store part : Bytes) → j ≡ i * capacity + capacity → j ≤ length store

@@ -1,7 +1,7 @@
 -- The memory that a word of the run tool starts with: 64 registers of 1,024 symbols.
 use mathlib.Core.Path.{_≡_}
 use mathlib.Core.List.{List}
-use Prim.Native.Nat.{ℕ, _≤_}
+use Prim.Native.Nat.{ℕ, _≤_, _<_}
 use lib.ListN.{length, getD}
 use Rattle.theory.specs.Text.{Bytes}
 use Rattle.theory.specs.Limits.{state-values, tool-registers, tool-capacity}
@@ -27,3 +27,9 @@ pub record Lent (s : Bytes) (l : List ℕ) : Type 0 where
 pub record Filled (f : ℕ → List Symbol) (s : Bytes) (l : List ℕ) : Type 0 where
   pub store : s ≡ store-of tool-capacity tool-registers f
   pub lengths : l ≡ lengths-of tool-registers f
+
+-- One byte stands from a place to another, and before it what stood there
+pub record Spread (from to b : ℕ) (before after : Bytes) : Type 0 where
+  pub same : length after ≡ length before
+  pub kept : (k : ℕ) → k < from → getD after k 0 ≡ getD before k 0
+  pub filled : (k : ℕ) → from ≤ k → k < to → getD after k 0 ≡ b

@@ -1,17 +1,20 @@
 // The memory of a fresh word: register i + 1 holds as many 1s as variable i has, and every other register is empty.
 ghost use mathlib.Core.Path.{_≡_};
-ghost use mathlib.Core.List.{_++_};
-ghost use Prim.Native.Nat.{ℕ, suc, _≤_, _<_};
-ghost use lib.ListN.{length, getD, replicate};
-ghost use Rattle.theory.specs.Word.{bytes-of};
+ghost use Prim.Native.Nat.{suc, _≤_};
+ghost use lib.ListN.{length};
 ghost use Rattle.theory.specs.Machines.{ones, holding, laid};
-ghost use Rattle.report.specs.Fresh.{values-of, Starts, Lent, Filled};
+ghost use Rattle.report.specs.Fresh.{values-of, Starts, Lent, Filled, Spread};
 
-// Byte i of a place that holds n ones.
-fn byte_at(i: usize, n: usize) -> u8
-    ensures { λ r. ⌜ ((m : ℕ) → r ≡ getD (bytes-of (ones n) ++ replicate m 0) i 0) ⌝ }
+// One byte, from a place of a part to another.
+fn put_bytes(part: &mut [u8], from: usize, to: usize, b: u8)
+    requires { ⌜ (from ≤ to) × (to ≤ length (now part)) ⌝ }
+    ensures { λ _. ⌜ Spread from to b (now (part .entry)) (now (part .exit)) ⌝ }
 {
-    if i < n { 49 } else { 0 }
+    let mut i = from;
+    while i < to {
+        part[i] = b;
+        i += 1;
+    }
 }
 
 // Lays n ones down in a place.
@@ -19,11 +22,9 @@ fn lay(part: &mut [u8], n: usize)
     requires { ⌜ n ≤ length (now part) ⌝ }
     ensures { λ _. ⌜ now (part .exit) ≡ laid (length (now (part .entry))) (ones n) ⌝ }
 {
-    let mut i = 0;
-    while i < part.len() {
-        part[i] = byte_at(i, n);
-        i += 1;
-    }
+    let size = part.len();
+    put_bytes(&mut *part, 0, n, 49);
+    put_bytes(&mut *part, n, size, 0);
 }
 
 // How many ones register i + 1 holds.
