@@ -1,10 +1,10 @@
 -- Pieces: the command that a line's numbers say, and a table, entry by entry.
 use mathlib.Core.Path.{_≡_, refl, ap}
 use mathlib.Core.List.{List, [], _∷_}
-use Prim.Native.Nat.{ℕ, zero, suc, _+_, _<_, _≤_}
+use Prim.Native.Nat.{ℕ, zero, suc, _+_, _<_}
 use native.Mathlib.Numerals.{add-one}
 use native.Mathlib.Omega.{arith}
-use lib.ListN.{length, getD, drop, drop-of-length-le}
+use lib.ListN.{length, getD, drop}
 use Rattle.theory.specs.ProgramText.{Plain, clear, increment, copy, Kind, loop, while, plain, opens}
 use Rattle.theory.specs.Word.{Entry}
 use Rattle.theory.specs.TurnedDown.{total}
@@ -47,12 +47,6 @@ table-from p i h = rw (add-one i) (entries-from (p .count) i (p .kinds) (p .oper
 pub table-length : (p : Piece) → length (table p) ≡ p .count
 table-length p = entries-length (p .count) (p .kinds) (p .operands)
 
-table-ends : (p : Piece) (i : ℕ) → p .count ≤ i → drop i (table p) ≡ []
-table-ends p i h = drop-of-length-le (table p) {i = i} (omega (arith, table-length p))
-
 pub total-from : (p : Piece) (i : ℕ) → i < p .count
     → total (drop i (table p)) ≡ getD (p .operands) i 0 + getD (p .kinds) i 0 + total (drop (i + 1) (table p))
 total-from p i h = ap total (table-from p i h)
-
-pub total-ends : (p : Piece) (i : ℕ) → p .count ≤ i → total (drop i (table p)) ≡ 0
-total-ends p i h = ap total (table-ends p i h)

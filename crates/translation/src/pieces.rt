@@ -8,8 +8,7 @@ ghost use Rattle.theory.specs.Source as S;
 ghost use Rattle.theory.specs.Word.{append, forward, cases, one};
 ghost use Rattle.theory.specs.Word as W;
 ghost use Rattle.theory.specs.Translation as T;
-ghost use Rattle.theory.specs.TurnedDown.{total};
-ghost use Rattle.translation.specs.Pieces.{plain-of, kind-of, Small, front, back, table, Holds};
+ghost use Rattle.translation.specs.Pieces.{plain-of, kind-of, Small, front, back, Holds};
 use crate::lines::Line;
 
 // Up to twelve instructions, the first `count` of the two arrays.
@@ -153,20 +152,6 @@ pub fn deeper(kind: u8, depth: usize) -> usize
         4 => depth + 1,
         _ => depth,
     }
-}
-
-// The symbols of a piece.
-pub fn symbols(piece: Piece) -> usize
-    requires { ⌜ (piece .count ≤ 12) × (total (table piece) ≤ Limits.most-symbols) ⌝ }
-    ensures { λ r. ⌜ r ≡ total (table piece) ⌝ }
-{
-    let mut sum: usize = 0;
-    let mut i: usize = 0;
-    while i < piece.count {
-        sum += piece.operands[i] + wide(piece.kinds[i]);
-        i += 1;
-    }
-    sum
 }
 
 // A byte as a number that can be counted with.
