@@ -8,7 +8,6 @@ ghost use Rattle.theory.specs.Translation.{plain-code};
 ghost use Rattle.translation.specs.Pieces.{plain-of, Small};
 ghost use Rattle.translation.specs.Sites.{Site, block-at, goes-on, first, Counted, Counts, Roomy, Around, join};
 use crate::lines;
-use crate::pieces;
 
 // So many instructions and symbols, and the line after what was counted, from 0.
 pub struct Extent {
@@ -104,7 +103,7 @@ fn pair_size(list: &[u8], lines: usize, variables: usize, depth: usize, at: usiz
     if line.kind <= 3 {
         line_size(line, variables, at)
     } else {
-        let inner = pieces::deeper(line.kind, depth);
+        let inner = lines::deeper(line.kind, depth);
         let body = block_size(list, lines, variables, inner, at + 1);
         around(line, variables, depth, body)
     }

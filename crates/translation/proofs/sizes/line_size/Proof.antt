@@ -1,8 +1,8 @@
 -- `line_size` meets its contract: by the kind, and for a copy by its two indices.
 use mathlib.Core.Path.{refl}
 use native.Mathlib.Omega.{arith}
-use borrow.Author.Tests.{eq-eqb, ne-eqb}
 use borrow.Author.Needs.{needs}
+use Rattle.translation.proofs.Plain.{clears, increments, touches, copies}
 use Rattle.translation.proofs.sizes.line_size.Statement.{statement}
 use Rattle.translation.proofs.sizes.line_size.Tie as tie
 
@@ -56,26 +56,28 @@ extent-of-requires-4 c κs = search needs
 
 returns : tie.Need-returns
 returns c =
-    rw (c .before .match .keys1, c .extent-of .ensures)
+    let a : _ = c .before .before .before .before .args in
+    rw (clears (a .line) (a .variables) (c .before .match .keys1), c .extent-of .ensures)
     (record { instructions = refl; symbols = omega arith; ended = refl })
 
 returns-2 : tie.Need-returns-2
 returns-2 c =
-    rw (c .before .match .keys2, c .extent-of2 .ensures)
+    let a : _ = c .before .before .before .before .args in
+    rw (increments (a .line) (a .variables) (c .before .match .keys2), c .extent-of2 .ensures)
     (record { instructions = refl; symbols = omega arith; ended = refl })
 
 returns-3 : tie.Need-returns-3
 returns-3 c =
+    let a : _ = c .before .before .before .before .before .before .args in
     let rest : _ = c .before .before .before .match .rest in
-    let same : _ = eq-eqb _ _ (c .before .if1 .taken) in
-    rw (ne-eqb _ 1 (rest .0 .1), ne-eqb _ 2 (rest .1), same, c .extent-of3 .ensures)
+    rw (touches (a .line) (a .variables) (rest .0 .1) (rest .1) (c .before .if1 .taken), c .extent-of3 .ensures)
     (record { instructions = refl; symbols = omega arith; ended = refl })
 
 returns-4 : tie.Need-returns-4
 returns-4 c =
+    let a : _ = c .before .before .before .before .before .before .args in
     let rest : _ = c .before .before .before .match .rest in
-    let other : _ = ne-eqb _ _ (c .before .if1 .left) in
-    rw (ne-eqb _ 1 (rest .0 .1), ne-eqb _ 2 (rest .1), other, c .extent-of4 .ensures)
+    rw (copies (a .line) (a .variables) (rest .0 .1) (rest .1) (c .before .if1 .left), c .extent-of4 .ensures)
     (record { instructions = refl; symbols = omega arith; ended = refl })
 
 pub line-size-spec : {M : Type 1} → statement M

@@ -1,0 +1,58 @@
+-- `before_loop` meets its contract: its parts, one after the other.
+use borrow.Author.Needs.{needs}
+use Rattle.translation.proofs.Puts.{spelt-then}
+use Rattle.translation.proofs.pieces.before_loop.Statement.{statement}
+use Rattle.translation.proofs.pieces.before_loop.Tie as tie
+
+add-a : tie.Need-add-a
+add-a c = search needs
+
+add-t : tie.Need-add-t
+add-t c = search needs
+
+add-c : tie.Need-add-c
+add-c c = search needs
+
+add-c-2 : tie.Need-add-c-2
+add-c-2 c = search needs
+
+sharing-requires : tie.Need-sharing-requires
+sharing-requires c κs = search needs
+
+returning-requires : tie.Need-returning-requires
+returning-requires c κs = search needs
+
+put-instruction-requires : tie.Need-put-instruction-requires
+put-instruction-requires c κs = search needs
+
+add-put-instruction : tie.Need-add-put-instruction
+add-put-instruction c = search needs
+
+put-instruction-requires-2 : tie.Need-put-instruction-requires-2
+put-instruction-requires-2 c κs = search needs
+
+same-length : tie.Need-same-length
+same-length c = search needs
+
+returns : tie.Need-returns
+returns c =
+    spelt-then (c .before .before .before .before .before .before .before .before .before .before .before .before .before .before .sharing .ensures)
+    (spelt-then (c .before .before .before .before .before .before .before .before .before .before .returning .ensures)
+    (spelt-then (c .before .before .before .before .before .before .put-instruction .ensures)
+    (c .before .before .put-instruction2 .ensures)))
+
+pub before-loop-spec : {M : Type 1} → statement M
+before-loop-spec =
+    tie.close
+    (tie.spec
+    add-a
+    add-t
+    add-c
+    add-c-2
+    sharing-requires
+    returning-requires
+    put-instruction-requires
+    add-put-instruction
+    put-instruction-requires-2
+    same-length
+    returns)
