@@ -1,15 +1,15 @@
 -- Pieces: the three numbers of a line, what they say, and the instructions of a line or of one end of a pair, written at a place.
 use mathlib.Core.Path.{_≡_}
 use mathlib.Core.Bool.{cond}
-use mathlib.Core.List.{List, [], _∷_}
+use mathlib.Core.List.{List, [], _∷_, _++_}
 use Prim.Native.Nat.{ℕ, suc, _+_, _*_, _≤_}
 use lib.ListN.{getD}
 use lib.Dec.{eqb}
 use Rattle.theory.specs.Limits
 use Rattle.theory.specs.ProgramText.{Plain, clear, increment, copy, Kind, loop, while, Command, numbers}
 use Rattle.theory.specs.Text.{Bytes}
-use Rattle.theory.specs.Word.{Instruction, Entry, table-of, spell-entries, bytes-of}
-use Rattle.theory.specs.Translation.{before-body, after-body}
+use Rattle.theory.specs.Word.{Instruction, append, forward, cases, one, Entry, table-of, spell-entries, bytes-of}
+use Rattle.theory.specs.Translation.{sharing, returning, before-body, after-body}
 use Rattle.theory.specs.TurnedDown.{total}
 use Rattle.program.specs.Puts.{Put}
 use Rattle.translation.specs.declared.lines.Line.{Line}
@@ -34,6 +34,13 @@ pub record Small (l : Line) (K : ℕ) : Type 0 where
   pub index : l .index ≤ Limits.most-index
   pub source : l .source ≤ Limits.most-index
   pub variables : K ≤ suc Limits.most-index
+
+-- What stands before the body of a LOOP and of a WHILE on register a, with a transfer of n places
+abbrev pub looping : ℕ → ℕ → ℕ → ℕ → List Instruction
+looping a c t n = sharing a c t ++ (returning t a ++ (cases c ∷ forward n ∷ []))
+
+abbrev pub testing : ℕ → ℕ → List Instruction
+testing a n = cases a ∷ forward n ∷ append one a ∷ []
 
 -- What stands before and after a body of m instructions, of a pair that a line opens inside d loops of a program of K variables
 abbrev pub front : ℕ → ℕ → Line → ℕ → List Instruction

@@ -4,11 +4,10 @@ ghost use mathlib.Core.List.{[], _∷_};
 ghost use Prim.Native.Nat.{_+_, _≤_};
 ghost use lib.ListN.{length, replicate};
 ghost use Rattle.theory.specs.Limits as Limits;
-ghost use Rattle.theory.specs.ProgramText.{loop, while};
 ghost use Rattle.theory.specs.Translation as T;
 ghost use Rattle.theory.proofs.Sizes.{weight};
 ghost use Rattle.program.specs.Puts.{Put};
-ghost use Rattle.translation.specs.Pieces.{plain-of, kind-of, Small, front, back, Spelt, Written};
+ghost use Rattle.translation.specs.Pieces.{plain-of, Small, looping, testing, front, back, Spelt, Written};
 use crate::lines::Line;
 
 // The number of # of an instruction, by its kind.
@@ -116,37 +115,24 @@ pub fn plain_line(out: &mut [u8], place: usize, line: Line, variables: usize) ->
     }
 }
 
-// C a, F4, +c, +t, B4, C t, F3, +a, B3, C c, F(m+2)
-fn before_loop(
-    out: &mut [u8],
-    place: usize,
-    line: Line,
-    variables: usize,
-    depth: usize,
-    m: usize,
-) -> usize
-    requires { ⌜ Small line variables × (depth ≤ Limits.most-open) × (m ≤ Limits.most-instructions)
-        × (place + weight (T.before-body variables depth loop (line .index) m) ≤ length (now out)) ⌝ }
-    ensures { λ r. ⌜ Written (T.before-body variables depth loop (line .index) m) place (now (out .entry)) (now (out .exit)) r ⌝ }
+// C a, F4, +c, +t, B4, C t, F3, +a, B3, C c, Fn
+fn before_loop(out: &mut [u8], place: usize, a: usize, c: usize, t: usize, n: usize) -> usize
+    requires { ⌜ place + weight (looping a c t n) ≤ length (now out) ⌝ }
+    ensures { λ r. ⌜ Written (looping a c t n) place (now (out .entry)) (now (out .exit)) r ⌝ }
 {
-    let a = line.index + 1;
-    let t = variables + 1;
-    let c = variables + 2 + depth;
     let shared = sharing(&mut *out, place, a, c, t);
     let returned = returning(&mut *out, shared, t, a);
     let last = put_instruction(&mut *out, returned, c, CASES);
-    put_instruction(&mut *out, last, m + 2, FORWARD)
+    put_instruction(&mut *out, last, n, FORWARD)
 }
 
-// C a, F(m+3), +a
-fn before_while(out: &mut [u8], place: usize, index: usize, m: usize) -> usize
-    requires { ⌜ (index ≤ Limits.most-index) × (m ≤ Limits.most-instructions)
-        × (place + weight (T.before-body 0 0 while index m) ≤ length (now out)) ⌝ }
-    ensures { λ r. ⌜ Written (T.before-body 0 0 while index m) place (now (out .entry)) (now (out .exit)) r ⌝ }
+// C a, Fn, +a
+fn before_while(out: &mut [u8], place: usize, a: usize, n: usize) -> usize
+    requires { ⌜ place + weight (testing a n) ≤ length (now out) ⌝ }
+    ensures { λ r. ⌜ Written (testing a n) place (now (out .entry)) (now (out .exit)) r ⌝ }
 {
-    let a = index + 1;
     let second = put_instruction(&mut *out, place, a, CASES);
-    let third = put_instruction(&mut *out, second, m + 3, FORWARD);
+    let third = put_instruction(&mut *out, second, n, FORWARD);
     put_instruction(&mut *out, third, a, APPEND)
 }
 
@@ -163,10 +149,13 @@ pub fn before_body(
         × (place + weight (front variables depth line m) ≤ length (now out)) ⌝ }
     ensures { λ r. ⌜ Written (front variables depth line m) place (now (out .entry)) (now (out .exit)) r ⌝ }
 {
+    let a = line.index + 1;
+    let t = variables + 1;
+    let c = variables + 2 + depth;
     let kind = line.kind;
     match kind {
-        4 => before_loop(&mut *out, place, line, variables, depth, m),
-        _ => before_while(&mut *out, place, line.index, m),
+        4 => before_loop(&mut *out, place, a, c, t, m + 2),
+        _ => before_while(&mut *out, place, a, m + 3),
     }
 }
 

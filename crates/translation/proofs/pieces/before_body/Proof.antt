@@ -1,18 +1,37 @@
 -- `before_body` meets its contract: by the kind of pair.
+use native.Mathlib.Omega.{arith}
 use borrow.Author.Needs.{needs}
 use borrow.Author.Tests.{eq-eqb, ne-eqb}
 use Rattle.translation.proofs.pieces.before_body.Statement.{statement}
 use Rattle.translation.proofs.pieces.before_body.Tie as tie
 
+add-a : tie.Need-add-a
+add-a c = search needs
+
+add-t : tie.Need-add-t
+add-t c = search needs
+
+add-c : tie.Need-add-c
+add-c c = search needs
+
+add-c-2 : tie.Need-add-c-2
+add-c-2 c = search needs
+
+add-before-loop : tie.Need-add-before-loop
+add-before-loop c = search needs
+
 before-loop-requires : tie.Need-before-loop-requires
 before-loop-requires c κs =
-    let room : _ = rw (eq-eqb _ 4 (c .before .match .keys1)) at (c .before .before .before .pre .3) in
-    search needs
+    let room : _ = rw (eq-eqb _ 4 (c .before .match .keys1)) at (c .before .before .before .before .pre .3) in
+    omega arith
+
+add-before-while : tie.Need-add-before-while
+add-before-while c = search needs
 
 before-while-requires : tie.Need-before-while-requires
 before-while-requires c κs =
-    let room : _ = rw (ne-eqb _ 4 (c .before .match .rest .1)) at (c .before .before .before .pre .3) in
-    search needs
+    let room : _ = rw (ne-eqb _ 4 (c .before .match .rest .1)) at (c .before .before .before .before .pre .3) in
+    omega arith
 
 same-length : tie.Need-same-length
 same-length c = search needs
@@ -30,7 +49,13 @@ pub before-body-spec : {M : Type 1} → statement M
 before-body-spec =
     tie.close
     (tie.spec
+    add-a
+    add-t
+    add-c
+    add-c-2
+    add-before-loop
     before-loop-requires
+    add-before-while
     before-while-requires
     same-length
     returns

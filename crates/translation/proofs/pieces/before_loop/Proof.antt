@@ -4,18 +4,6 @@ use Rattle.translation.proofs.Puts.{spelt-then}
 use Rattle.translation.proofs.pieces.before_loop.Statement.{statement}
 use Rattle.translation.proofs.pieces.before_loop.Tie as tie
 
-add-a : tie.Need-add-a
-add-a c = search needs
-
-add-t : tie.Need-add-t
-add-t c = search needs
-
-add-c : tie.Need-add-c
-add-c c = search needs
-
-add-c-2 : tie.Need-add-c-2
-add-c-2 c = search needs
-
 sharing-requires : tie.Need-sharing-requires
 sharing-requires c κs = search needs
 
@@ -24,9 +12,6 @@ returning-requires c κs = search needs
 
 put-instruction-requires : tie.Need-put-instruction-requires
 put-instruction-requires c κs = search needs
-
-add-put-instruction : tie.Need-add-put-instruction
-add-put-instruction c = search needs
 
 put-instruction-requires-2 : tie.Need-put-instruction-requires-2
 put-instruction-requires-2 c κs = search needs
@@ -45,14 +30,9 @@ pub before-loop-spec : {M : Type 1} → statement M
 before-loop-spec =
     tie.close
     (tie.spec
-    add-a
-    add-t
-    add-c
-    add-c-2
     sharing-requires
     returning-requires
     put-instruction-requires
-    add-put-instruction
     put-instruction-requires-2
     same-length
     returns)

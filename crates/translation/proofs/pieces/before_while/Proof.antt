@@ -4,14 +4,8 @@ use Rattle.translation.proofs.Puts.{spelt-then}
 use Rattle.translation.proofs.pieces.before_while.Statement.{statement}
 use Rattle.translation.proofs.pieces.before_while.Tie as tie
 
-add-a : tie.Need-add-a
-add-a c = search needs
-
 put-instruction-requires : tie.Need-put-instruction-requires
 put-instruction-requires c κs = search needs
-
-add-put-instruction : tie.Need-add-put-instruction
-add-put-instruction c = search needs
 
 put-instruction-requires-2 : tie.Need-put-instruction-requires-2
 put-instruction-requires-2 c κs = search needs
@@ -32,9 +26,7 @@ pub before-while-spec : {M : Type 1} → statement M
 before-while-spec =
     tie.close
     (tie.spec
-    add-a
     put-instruction-requires
-    add-put-instruction
     put-instruction-requires-2
     put-instruction-requires-3
     same-length
