@@ -21,10 +21,12 @@ same-length c = search needs
 
 returns : tie.Need-returns
 returns c =
-    spelt-then (c .before .before .before .before .before .before .before .before .before .before .before .before .before .before .sharing .ensures)
-    (spelt-then (c .before .before .before .before .before .before .before .before .before .before .returning .ensures)
-    (spelt-then (c .before .before .before .before .before .before .put-instruction .ensures)
-    (c .before .before .put-instruction2 .ensures)))
+    let fourth : _ = c .before .before in
+    let third : _ = fourth .before .before .before .before in
+    let second : _ = third .before .before .before .before in
+    let first : _ = second .before .before .before .before in
+    spelt-then (first .sharing .ensures) (spelt-then (second .returning .ensures)
+    (spelt-then (third .put-instruction .ensures) (fourth .put-instruction2 .ensures)))
 
 pub before-loop-spec : {M : Type 1} → statement M
 before-loop-spec =

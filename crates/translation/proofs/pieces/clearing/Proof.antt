@@ -18,9 +18,10 @@ same-length c = search needs
 
 returns : tie.Need-returns
 returns c =
-    spelt-then (c .before .before .before .before .before .before .before .before .before .before .put-instruction .ensures)
-    (spelt-then (c .before .before .before .before .before .before .put-instruction2 .ensures)
-    (c .before .before .put-instruction3 .ensures))
+    let third : _ = c .before .before in
+    let second : _ = third .before .before .before .before in
+    let first : _ = second .before .before .before .before in
+    spelt-then (first .put-instruction .ensures) (spelt-then (second .put-instruction2 .ensures) (third .put-instruction3 .ensures))
 
 pub clearing-spec : {M : Type 1} → statement M
 clearing-spec =

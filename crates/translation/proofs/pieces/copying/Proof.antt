@@ -18,9 +18,10 @@ same-length c = search needs
 
 returns : tie.Need-returns
 returns c =
-    spelt-then (c .before .before .before .before .before .before .before .before .before .before .clearing .ensures)
-    (spelt-then (c .before .before .before .before .before .before .sharing .ensures)
-    (c .before .before .returning .ensures))
+    let third : _ = c .before .before in
+    let second : _ = third .before .before .before .before in
+    let first : _ = second .before .before .before .before in
+    spelt-then (first .clearing .ensures) (spelt-then (second .sharing .ensures) (third .returning .ensures))
 
 pub copying-spec : {M : Type 1} → statement M
 copying-spec =

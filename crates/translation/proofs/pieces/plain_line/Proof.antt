@@ -15,62 +15,74 @@ add-a c = search needs
 
 clearing-requires : tie.Need-clearing-requires
 clearing-requires c κs =
-    let a : _ = c .before .before .before .before .before .args in
-    omega (arith, ap weight (clears (a .line) (a .variables) (c .before .match .keys1)))
+    let kind : _ = c .before in
+    let a : _ = kind .before .before .before .before .args in
+    omega (arith, ap weight (clears (a .line) (a .variables) (kind .match .keys1)))
 
 put-instruction-requires : tie.Need-put-instruction-requires
 put-instruction-requires c κs =
-    let a : _ = c .before .before .before .before .before .args in
-    omega (arith, ap weight (increments (a .line) (a .variables) (c .before .match .keys2)))
+    let kind : _ = c .before in
+    let a : _ = kind .before .before .before .before .args in
+    omega (arith, ap weight (increments (a .line) (a .variables) (kind .match .keys2)))
 
 touching-requires : tie.Need-touching-requires
 touching-requires c κs =
-    let a : _ = c .before .before .before .before .before .before .before .args in
-    let rest : _ = c .before .before .before .match .rest in
-    omega (arith, ap weight (touches (a .line) (a .variables) (rest .0 .1) (rest .1) (c .before .if1 .taken)))
+    let test : _ = c .before in
+    let other : _ = test .before .before in
+    let a : _ = other .before .before .before .before .args in
+    omega (arith, ap weight (touches (a .line) (a .variables) (other .match .rest .0 .1) (other .match .rest .1) (test .if1 .taken)))
 
 add-copying : tie.Need-add-copying
 add-copying c = search needs
 
 copying-requires : tie.Need-copying-requires
 copying-requires c κs =
-    let a : _ = c .before .before .before .before .before .before .before .args in
-    let rest : _ = c .before .before .before .match .rest in
-    omega (arith, ap weight (copies (a .line) (a .variables) (rest .0 .1) (rest .1) (c .before .if1 .left)))
+    let test : _ = c .before in
+    let other : _ = test .before .before in
+    let a : _ = other .before .before .before .before .args in
+    omega (arith, ap weight (copies (a .line) (a .variables) (other .match .rest .0 .1) (other .match .rest .1) (test .if1 .left)))
 
 same-length : tie.Need-same-length
 same-length c = search needs
 
 returns : tie.Need-returns
 returns c =
-    let a : _ = c .before .before .before .before .before .before .before .before .args in
-    rw (clears (a .line) (a .variables) (c .before .before .before .before .match .keys1)) (c .before .before .clearing .ensures)
+    let call : _ = c .before .before in
+    let kind : _ = call .before .before in
+    let a : _ = kind .before .before .before .before .args in
+    rw (clears (a .line) (a .variables) (kind .match .keys1)) (call .clearing .ensures)
 
 same-length-2 : tie.Need-same-length-2
 same-length-2 c = search needs
 
 returns-2 : tie.Need-returns-2
 returns-2 c =
-    let a : _ = c .before .before .before .before .before .before .before .before .args in
-    rw (increments (a .line) (a .variables) (c .before .before .before .before .match .keys2)) (c .before .before .put-instruction .ensures)
+    let call : _ = c .before .before in
+    let kind : _ = call .before .before in
+    let a : _ = kind .before .before .before .before .args in
+    rw (increments (a .line) (a .variables) (kind .match .keys2)) (call .put-instruction .ensures)
 
 same-length-3 : tie.Need-same-length-3
 same-length-3 c = search needs
 
 returns-3 : tie.Need-returns-3
 returns-3 c =
-    let a : _ = c .before .before .before .before .before .before .before .before .before .before .args in
-    let rest : _ = c .before .before .before .before .before .before .match .rest in
-    rw (touches (a .line) (a .variables) (rest .0 .1) (rest .1) (c .before .before .before .before .if1 .taken)) (c .before .before .touching .ensures)
+    let call : _ = c .before .before in
+    let test : _ = call .before .before in
+    let other : _ = test .before .before in
+    let a : _ = other .before .before .before .before .args in
+    rw (touches (a .line) (a .variables) (other .match .rest .0 .1) (other .match .rest .1) (test .if1 .taken)) (call .touching .ensures)
 
 same-length-4 : tie.Need-same-length-4
 same-length-4 c = search needs
 
 returns-4 : tie.Need-returns-4
 returns-4 c =
-    let a : _ = c .before .before .before .before .before .before .before .before .before .before .args in
-    let rest : _ = c .before .before .before .before .before .before .match .rest in
-    rw (copies (a .line) (a .variables) (rest .0 .1) (rest .1) (c .before .before .before .before .if1 .left)) (c .before .before .copying .ensures)
+    let call : _ = c .before .before in
+    let test : _ = call .before .before in
+    let other : _ = test .before .before in
+    let a : _ = other .before .before .before .before .args in
+    rw (copies (a .line) (a .variables) (other .match .rest .0 .1) (other .match .rest .1) (test .if1 .left)) (call .copying .ensures)
 
 pub plain-line-spec : {M : Type 1} → statement M
 plain-line-spec =

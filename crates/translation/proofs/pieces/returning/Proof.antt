@@ -21,10 +21,12 @@ same-length c = search needs
 
 returns : tie.Need-returns
 returns c =
-    spelt-then (c .before .before .before .before .before .before .before .before .before .before .before .before .before .before .put-instruction .ensures)
-    (spelt-then (c .before .before .before .before .before .before .before .before .before .before .put-instruction2 .ensures)
-    (spelt-then (c .before .before .before .before .before .before .put-instruction3 .ensures)
-    (c .before .before .put-instruction4 .ensures)))
+    let fourth : _ = c .before .before in
+    let third : _ = fourth .before .before .before .before in
+    let second : _ = third .before .before .before .before in
+    let first : _ = second .before .before .before .before in
+    spelt-then (first .put-instruction .ensures) (spelt-then (second .put-instruction2 .ensures)
+    (spelt-then (third .put-instruction3 .ensures) (fourth .put-instruction4 .ensures)))
 
 pub returning-spec : {M : Type 1} → statement M
 returning-spec =

@@ -24,11 +24,13 @@ same-length c = search needs
 
 returns : tie.Need-returns
 returns c =
-    spelt-then (c .before .before .before .before .before .before .before .before .before .before .before .before .before .before .before .before .before .before .put-instruction .ensures)
-    (spelt-then (c .before .before .before .before .before .before .before .before .before .before .before .before .before .before .put-instruction2 .ensures)
-    (spelt-then (c .before .before .before .before .before .before .before .before .before .before .put-instruction3 .ensures)
-    (spelt-then (c .before .before .before .before .before .before .put-instruction4 .ensures)
-    (c .before .before .put-instruction5 .ensures))))
+    let fifth : _ = c .before .before in
+    let fourth : _ = fifth .before .before .before .before in
+    let third : _ = fourth .before .before .before .before in
+    let second : _ = third .before .before .before .before in
+    let first : _ = second .before .before .before .before in
+    spelt-then (first .put-instruction .ensures) (spelt-then (second .put-instruction2 .ensures)
+    (spelt-then (third .put-instruction3 .ensures) (spelt-then (fourth .put-instruction4 .ensures) (fifth .put-instruction5 .ensures))))
 
 pub sharing-spec : {M : Type 1} → statement M
 sharing-spec =

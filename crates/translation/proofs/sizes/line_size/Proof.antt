@@ -56,28 +56,32 @@ extent-of-requires-4 c κs = search needs
 
 returns : tie.Need-returns
 returns c =
-    let a : _ = c .before .before .before .before .args in
-    rw (clears (a .line) (a .variables) (c .before .match .keys1), c .extent-of .ensures)
+    let kind : _ = c .before in
+    let a : _ = kind .before .before .before .args in
+    rw (clears (a .line) (a .variables) (kind .match .keys1), c .extent-of .ensures)
     (record { instructions = refl; symbols = omega arith; ended = refl })
 
 returns-2 : tie.Need-returns-2
 returns-2 c =
-    let a : _ = c .before .before .before .before .args in
-    rw (increments (a .line) (a .variables) (c .before .match .keys2), c .extent-of2 .ensures)
+    let kind : _ = c .before in
+    let a : _ = kind .before .before .before .args in
+    rw (increments (a .line) (a .variables) (kind .match .keys2), c .extent-of2 .ensures)
     (record { instructions = refl; symbols = omega arith; ended = refl })
 
 returns-3 : tie.Need-returns-3
 returns-3 c =
-    let a : _ = c .before .before .before .before .before .before .args in
-    let rest : _ = c .before .before .before .match .rest in
-    rw (touches (a .line) (a .variables) (rest .0 .1) (rest .1) (c .before .if1 .taken), c .extent-of3 .ensures)
+    let test : _ = c .before in
+    let other : _ = test .before .before in
+    let a : _ = other .before .before .before .args in
+    rw (touches (a .line) (a .variables) (other .match .rest .0 .1) (other .match .rest .1) (test .if1 .taken), c .extent-of3 .ensures)
     (record { instructions = refl; symbols = omega arith; ended = refl })
 
 returns-4 : tie.Need-returns-4
 returns-4 c =
-    let a : _ = c .before .before .before .before .before .before .args in
-    let rest : _ = c .before .before .before .match .rest in
-    rw (copies (a .line) (a .variables) (rest .0 .1) (rest .1) (c .before .if1 .left), c .extent-of4 .ensures)
+    let test : _ = c .before in
+    let other : _ = test .before .before in
+    let a : _ = other .before .before .before .args in
+    rw (copies (a .line) (a .variables) (other .match .rest .0 .1) (other .match .rest .1) (test .if1 .left), c .extent-of4 .ensures)
     (record { instructions = refl; symbols = omega arith; ended = refl })
 
 pub line-size-spec : {M : Type 1} → statement M

@@ -3,6 +3,7 @@
 use mathlib.Core.Path.{sym, _∙_}
 use Prim.Native.Nat.{ℕ, _<_, _+_, _-_, _*_}
 use native.Mathlib.Omega.{arith}
+use borrow.Author.Needs.{needs}
 use borrow.Fn.Kinds.{In}
 use borrow.Fn.PlainCycle.{Measures, is, falls, and}
 use Rattle.translation.proofs.Sites.{bounds}
@@ -174,7 +175,7 @@ module _ (t : ℕ) where
       (f .before-body .ensures .put) (b .put-block .ensures)
 
   pair-length : pair.Need-same-length in-pair pair-here pair-reads.Post
-  pair-length c = put-length (c .before .before .put-line .ensures .put)
+  pair-length c = search needs
 
   pair-returns : pair.Need-returns in-pair pair-here pair-reads.Post
   pair-returns c =
@@ -185,11 +186,7 @@ module _ (t : ℕ) where
       plain-writes _ _ _ _ _ (q .0) (q .1) _ p _ _ _ _ (w .put-line .ensures)
 
   pair-length-2 : pair.Need-same-length-2 in-pair pair-here pair-reads.Post
-  pair-length-2 c =
-      let a : _ = c .before .before in
-      let b : _ = a .before .before .before .before in
-      let f : _ = b .before .before .before .before in
-      put-length (a .put-after .ensures .put) ∙ (put-length (b .put-block .ensures .put) ∙ put-length (f .before-body .ensures .put))
+  pair-length-2 c = search needs
 
   pair-returns-2 : pair.Need-returns-2 in-pair pair-here pair-reads.Post
   pair-returns-2 c =
