@@ -51,13 +51,13 @@ fn clearing(out: &mut [u8], place: usize, a: usize) -> usize
     put_instruction(&mut *out, third, 2, BACKWARD)
 }
 
-// C a, F2, +a
-fn touching(out: &mut [u8], place: usize, a: usize) -> usize
-    requires { ⌜ place + weight (T.touching a) ≤ length (now out) ⌝ }
-    ensures { λ r. ⌜ Written (T.touching a) place (now (out .entry)) (now (out .exit)) r ⌝ }
+// C a, Fn, +a: a copy of a into itself, by n = 2, and what stands before the body of a WHILE
+fn testing(out: &mut [u8], place: usize, a: usize, n: usize) -> usize
+    requires { ⌜ place + weight (testing a n) ≤ length (now out) ⌝ }
+    ensures { λ r. ⌜ Written (testing a n) place (now (out .entry)) (now (out .exit)) r ⌝ }
 {
     let second = put_instruction(&mut *out, place, a, CASES);
-    let third = put_instruction(&mut *out, second, 2, FORWARD);
+    let third = put_instruction(&mut *out, second, n, FORWARD);
     put_instruction(&mut *out, third, a, APPEND)
 }
 
@@ -107,7 +107,7 @@ pub fn plain_line(out: &mut [u8], place: usize, line: Line, variables: usize) ->
         2 => put_instruction(&mut *out, place, b, APPEND),
         _ => {
             if line.index == line.source {
-                touching(&mut *out, place, a)
+                testing(&mut *out, place, a, 2)
             } else {
                 copying(&mut *out, place, a, b, variables + 1)
             }
@@ -115,8 +115,8 @@ pub fn plain_line(out: &mut [u8], place: usize, line: Line, variables: usize) ->
     }
 }
 
-// C a, F4, +c, +t, B4, C t, F3, +a, B3, C c, Fn
-fn before_loop(out: &mut [u8], place: usize, a: usize, c: usize, t: usize, n: usize) -> usize
+// C a, F4, +c, +t, B4, C t, F3, +a, B3, C c, Fn: what stands before the body of a LOOP
+fn looping(out: &mut [u8], place: usize, a: usize, c: usize, t: usize, n: usize) -> usize
     requires { ⌜ place + weight (looping a c t n) ≤ length (now out) ⌝ }
     ensures { λ r. ⌜ Written (looping a c t n) place (now (out .entry)) (now (out .exit)) r ⌝ }
 {
@@ -124,16 +124,6 @@ fn before_loop(out: &mut [u8], place: usize, a: usize, c: usize, t: usize, n: us
     let returned = returning(&mut *out, shared, t, a);
     let last = put_instruction(&mut *out, returned, c, CASES);
     put_instruction(&mut *out, last, n, FORWARD)
-}
-
-// C a, Fn, +a
-fn before_while(out: &mut [u8], place: usize, a: usize, n: usize) -> usize
-    requires { ⌜ place + weight (testing a n) ≤ length (now out) ⌝ }
-    ensures { λ r. ⌜ Written (testing a n) place (now (out .entry)) (now (out .exit)) r ⌝ }
-{
-    let second = put_instruction(&mut *out, place, a, CASES);
-    let third = put_instruction(&mut *out, second, n, FORWARD);
-    put_instruction(&mut *out, third, a, APPEND)
 }
 
 // What stands before the body of a pair that the line opens, inside `depth` loops, with a body of m instructions.
@@ -154,8 +144,8 @@ pub fn before_body(
     let c = variables + 2 + depth;
     let kind = line.kind;
     match kind {
-        4 => before_loop(&mut *out, place, a, c, t, m + 2),
-        _ => before_while(&mut *out, place, a, m + 3),
+        4 => looping(&mut *out, place, a, c, t, m + 2),
+        _ => testing(&mut *out, place, a, m + 3),
     }
 }
 

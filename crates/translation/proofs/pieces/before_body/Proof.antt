@@ -17,19 +17,19 @@ add-c c = search needs
 add-c-2 : tie.Need-add-c-2
 add-c-2 c = search needs
 
-add-before-loop : tie.Need-add-before-loop
-add-before-loop c = search needs
+add-looping : tie.Need-add-looping
+add-looping c = search needs
 
-before-loop-requires : tie.Need-before-loop-requires
-before-loop-requires c κs =
+looping-requires : tie.Need-looping-requires
+looping-requires c κs =
     let room : _ = rw (eq-eqb _ 4 (c .before .match .keys1)) at (c .before .before .before .before .pre .3) in
     omega arith
 
-add-before-while : tie.Need-add-before-while
-add-before-while c = search needs
+add-testing : tie.Need-add-testing
+add-testing c = search needs
 
-before-while-requires : tie.Need-before-while-requires
-before-while-requires c κs =
+testing-requires : tie.Need-testing-requires
+testing-requires c κs =
     let room : _ = rw (ne-eqb _ 4 (c .before .match .rest .1)) at (c .before .before .before .before .pre .3) in
     omega arith
 
@@ -37,13 +37,13 @@ same-length : tie.Need-same-length
 same-length c = search needs
 
 returns : tie.Need-returns
-returns c = rw (eq-eqb _ 4 (c .before .before .before .before .match .keys1)) (c .before .before .before-loop .ensures)
+returns c = rw (eq-eqb _ 4 (c .before .before .before .before .match .keys1)) (c .before .before .looping .ensures)
 
 same-length-2 : tie.Need-same-length-2
 same-length-2 c = search needs
 
 returns-2 : tie.Need-returns-2
-returns-2 c = rw (ne-eqb _ 4 (c .before .before .before .before .match .rest .1)) (c .before .before .before-while .ensures)
+returns-2 c = rw (ne-eqb _ 4 (c .before .before .before .before .match .rest .1)) (c .before .before .testing .ensures)
 
 pub before-body-spec : {M : Type 1} → statement M
 before-body-spec =
@@ -53,10 +53,10 @@ before-body-spec =
     add-t
     add-c
     add-c-2
-    add-before-loop
-    before-loop-requires
-    add-before-while
-    before-while-requires
+    add-looping
+    looping-requires
+    add-testing
+    testing-requires
     same-length
     returns
     same-length-2

@@ -25,8 +25,8 @@ put-instruction-requires c κs =
     let a : _ = kind .before .before .before .before .args in
     omega (arith, ap weight (increments (a .line) (a .variables) (kind .match .keys2)))
 
-touching-requires : tie.Need-touching-requires
-touching-requires c κs =
+testing-requires : tie.Need-testing-requires
+testing-requires c κs =
     let test : _ = c .before in
     let other : _ = test .before .before in
     let a : _ = other .before .before .before .before .args in
@@ -71,7 +71,7 @@ returns-3 c =
     let test : _ = call .before .before in
     let other : _ = test .before .before in
     let a : _ = other .before .before .before .before .args in
-    rw (touches (a .line) (a .variables) (other .match .rest .0 .1) (other .match .rest .1) (test .if1 .taken)) (call .touching .ensures)
+    rw (touches (a .line) (a .variables) (other .match .rest .0 .1) (other .match .rest .1) (test .if1 .taken)) (call .testing .ensures)
 
 same-length-4 : tie.Need-same-length-4
 same-length-4 c = search needs
@@ -92,7 +92,7 @@ plain-line-spec =
     add-a
     clearing-requires
     put-instruction-requires
-    touching-requires
+    testing-requires
     add-copying
     copying-requires
     same-length

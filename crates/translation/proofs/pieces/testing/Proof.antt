@@ -1,8 +1,8 @@
--- `before_while` meets its contract: its instructions, one after the other.
+-- `testing` meets its contract: its instructions, one after the other.
 use borrow.Author.Needs.{needs}
 use Rattle.translation.proofs.Puts.{spelt-then}
-use Rattle.translation.proofs.pieces.before_while.Statement.{statement}
-use Rattle.translation.proofs.pieces.before_while.Tie as tie
+use Rattle.translation.proofs.pieces.testing.Statement.{statement}
+use Rattle.translation.proofs.pieces.testing.Tie as tie
 
 put-instruction-requires : tie.Need-put-instruction-requires
 put-instruction-requires c κs = search needs
@@ -23,8 +23,8 @@ returns c =
     let first : _ = second .before .before .before .before in
     spelt-then (first .put-instruction .ensures) (spelt-then (second .put-instruction2 .ensures) (third .put-instruction3 .ensures))
 
-pub before-while-spec : {M : Type 1} → statement M
-before-while-spec =
+pub testing-spec : {M : Type 1} → statement M
+testing-spec =
     tie.close
     (tie.spec
     put-instruction-requires

@@ -1,8 +1,8 @@
--- `before_loop` meets its contract: its parts, one after the other.
+-- `looping` meets its contract: its parts, one after the other.
 use borrow.Author.Needs.{needs}
 use Rattle.translation.proofs.Puts.{spelt-then}
-use Rattle.translation.proofs.pieces.before_loop.Statement.{statement}
-use Rattle.translation.proofs.pieces.before_loop.Tie as tie
+use Rattle.translation.proofs.pieces.looping.Statement.{statement}
+use Rattle.translation.proofs.pieces.looping.Tie as tie
 
 sharing-requires : tie.Need-sharing-requires
 sharing-requires c κs = search needs
@@ -28,8 +28,8 @@ returns c =
     spelt-then (first .sharing .ensures) (spelt-then (second .returning .ensures)
     (spelt-then (third .put-instruction .ensures) (fourth .put-instruction2 .ensures)))
 
-pub before-loop-spec : {M : Type 1} → statement M
-before-loop-spec =
+pub looping-spec : {M : Type 1} → statement M
+looping-spec =
     tie.close
     (tie.spec
     sharing-requires
