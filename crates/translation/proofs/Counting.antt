@@ -80,12 +80,11 @@ module _ (list : List ℕ) (count K d at : ℕ) where
 
 -- The line or pair at a site
 module _ (list : List ℕ) (count K d at : ℕ) (s : Site list count K d at) (g : goes-on (block-at list at) ≡ true) (l : Line) where
-  pub plain-asks : PlainHere list count K d at s g l
-      → Small l K × (weight (plain-code K (plain-of l)) ≤ Limits.most-symbols) × (at < Limits.most-lines)
+  pub plain-asks : PlainHere list count K d at s g l → Small l K × (at < Limits.most-lines)
   plain-asks p =
       let b : Bounds list count K d at = bounds list count K d at s in
       let h : _ = here list count K d at s g in
-      (p .small, omega (arith, b .symbols, h .symbols, ap weight (p .code)), omega (arith, b .few-lines, h .below))
+      (p .small, omega (arith, b .few-lines, h .below))
 
   pub plain-counts : PlainHere list count K d at s g l → (e : Extent) → Counted (plain-code K (plain-of l)) (at + 1) e
       → Counts K d at (first (block-at list at)) e

@@ -1,21 +1,18 @@
--- Texts written one after the other: a run of one symbol, the text of an entry, and that of a piece.
+-- Texts written one after the other: runs of one symbol, entries.
 use mathlib.Core.Path.{_≡_, refl, ap, ap₂, _∙_}
 use mathlib.Core.List.{List, [], _∷_, _++_, map, append-nil}
 use mathlib.Core.List as L
-use Prim.Native.Nat.{ℕ, zero, suc, _+_, _<_}
+use Prim.Native.Nat.{ℕ, zero, suc, _+_}
 use native.Mathlib.Omega.{arith}
-use lib.ListN.{length, take, replicate, set, length-map, length-replicate, replicate-append-replicate}
-use lib.Seq.{sets, take-add}
+use lib.ListN.{length, replicate, set, length-map, length-replicate, replicate-append-replicate}
+use lib.Seq.{sets}
 use Rattle.theory.specs.Word.{byte-of, one, hash, Entry, spell-entries}
 use Rattle.theory.specs.TurnedDown.{total}
 use Rattle.theory.proofs.Sizes.{spell-entries-append}
 use Rattle.theory.proofs.Words.{total-length}
-use Rattle.translation.specs.Pieces.{table}
+use Rattle.translation.specs.Pieces.{text, Spelt}
 use Rattle.program.specs.Puts.{Put}
-use Rattle.program.proofs.Puts.{sets-append}
-use Rattle.translation.specs.Sites.{text}
-use Rattle.translation.specs.declared.pieces.Piece.{Piece}
-use Rattle.translation.proofs.Tables.{entry-at, table-from}
+use Rattle.program.proofs.Puts.{sets-append, put-then}
 
 -- Nothing
 pub put-nothing : (l : List ℕ) (i : ℕ) → Put [] i l l i
@@ -38,15 +35,22 @@ map-replicate : {A B : Type 0} (f : A → B) (n : ℕ) (x : A) → map f (replic
 map-replicate f zero x = refl
 map-replicate {B = B} f (suc n) x = ap {B = List B} (λ l. f x ∷ l) (map-replicate f n x)
 
-pub text-entry : (e : Entry) → text (e ∷ []) ≡ replicate (e .operand) 49 ++ replicate (e .kind) 35
+text-entry : (e : Entry) → text (e ∷ []) ≡ replicate (e .operand) 49 ++ replicate (e .kind) 35
 unfolding spell-entries
 text-entry e =
     rw append-nil
     (L.map-append byte-of (replicate (e .operand) one) (replicate (e .kind) hash)
     ∙ ap₂ (λ u v. u ++ v) (map-replicate byte-of (e .operand) one) (map-replicate byte-of (e .kind) hash))
 
-pub text-more : (p : Piece) (i : ℕ) → i < p .count → text (take (i + 1) (table p)) ≡ text (take i (table p)) ++ text (entry-at p i ∷ [])
-text-more p i h =
-    let one-more : take (i + 1) (table p) ≡ take i (table p) ++ (entry-at p i ∷ []) =
-    take-add i 1 (table p) ∙ ap (λ l. take i (table p) ++ take 1 l) (table-from p i h) in
-    ap text one-more ∙ text-append (take i (table p)) (entry-at p i ∷ [])
+-- An entry, by its two runs
+pub spelt-entry : {l m n : List ℕ} {i j k : ℕ} (e : Entry) → Put (replicate (e .operand) 49) i l m j → Put (replicate (e .kind) 35) j m n k
+    → Spelt (e ∷ []) i l n k
+spelt-entry {l} {n = n} {i} {k = k} e p q =
+    let put : Put (text (e ∷ [])) i l n k = rw (text-entry e) (put-then p q) in
+    record { put = put; ended = put .ended ∙ ap (λ x. i + x) (text-length (e ∷ [])) }
+
+-- One text after the other
+pub spelt-then : {s t : List Entry} {l m n : List ℕ} {i j k : ℕ} → Spelt s i l m j → Spelt t j m n k → Spelt (s ++ t) i l n k
+spelt-then {s} {t} {l} {n = n} {i} {k = k} p q =
+    let put : Put (text (s ++ t)) i l n k = rw (text-append s t) (put-then (p .put) (q .put)) in
+    record { put = put; ended = put .ended ∙ ap (λ x. i + x) (text-length (s ++ t)) }

@@ -16,7 +16,6 @@ use Rattle.theory.proofs.Sizes.{weight, weight-append}
 use Rattle.translation.specs.Pieces.{numbers-at, Says, plain-of, kind-of, Small, front, back}
 use Rattle.translation.specs.Sites.{block-at, goes-on, first, rest, Site}
 use Rattle.translation.specs.declared.lines.Line.{Line}
-use Rattle.translation.proofs.Tables.{plain-says, kind-says}
 use Rattle.translation.proofs.Sites.{numbers-count, Stands, body-site, rest-site, Few, Bounds, bounds}
 use Rattle.translation.proofs.Sites.{Plainly, Paired, plain-here, pair-here}
 
@@ -79,6 +78,15 @@ module _ (list : List ℕ) (count K d at : ℕ) where
       }
 
 -- The line or pair at a site, by the numbers of its line
+
+kind-says : (l : Line) (k : Kind) (i : ℕ) → Says l (opens k i) → kind-of (l .kind) ≡ k
+kind-says l loop i s = let e : l .kind ≡ 4 = cc in rw e
+kind-says l while i s = let e : l .kind ≡ 6 = cc in rw e
+
+plain-says : (l : Line) (c : Plain) → Says l (plain c) → plain-of l ≡ c
+plain-says l (clear i) s = let e : l .kind ≡ 1 = cc in rw e (cc)
+plain-says l (increment i) s = let e : l .kind ≡ 2 = cc in rw e (cc)
+plain-says l (copy i j) s = let e : l .kind ≡ 3 = cc in rw e (cc)
 
 variables-line : (l : Line) (K : ℕ) (c : Plain) (b : Block) → Says l (plain c) → Few (variables (lines (line c b))) → Few K → Small l K
 variables-line l K (clear i) b s h k =

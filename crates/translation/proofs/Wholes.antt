@@ -12,7 +12,8 @@ use Rattle.theory.proofs.Nesting.{well-nested}
 use Rattle.theory.proofs.Sizes.{weight, bytes-length}
 use Rattle.translation.specs.Answers.{size-of}
 use Rattle.program.specs.Puts.{Put}
-use Rattle.translation.specs.Sites.{program-of, block-at, Known, Site, Counts, text, Writes}
+use Rattle.translation.specs.Pieces.{text}
+use Rattle.translation.specs.Sites.{program-of, block-at, Known, Site, Counts, Writes}
 use Rattle.translation.specs.declared.sizes.Extent.{Extent}
 use Rattle.translation.specs.declared.writing.Spot.{Spot}
 use Rattle.translation.proofs.Sites.{accepted, Stands, whole-site, Bounds, bounds}

@@ -11,9 +11,9 @@ use Rattle.theory.specs.Source.{deeper}
 use Rattle.theory.specs.Word.{Instruction, entry-of, table-of, spell-entries}
 use Rattle.theory.specs.Translation.{plain-code, code}
 use Rattle.theory.proofs.Sizes.{weight, weight-append}
-use Rattle.translation.specs.Pieces.{plain-of, kind-of, Small}
+use Rattle.translation.specs.Pieces.{plain-of, kind-of, Small, text}
 use Rattle.program.specs.Puts.{Put}
-use Rattle.translation.specs.Sites.{block-at, goes-on, first, Site, Counts, before, after, text, Wrote, Writes}
+use Rattle.translation.specs.Sites.{block-at, goes-on, first, Site, Counts, before, after, Wrote, Writes}
 use Rattle.translation.specs.declared.lines.Line.{Line}
 use Rattle.translation.specs.declared.sizes.Extent.{Extent}
 use Rattle.translation.specs.declared.writing.Spot.{Spot}

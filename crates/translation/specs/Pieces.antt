@@ -1,15 +1,17 @@
--- Pieces: the instructions of a line or of one end of a pair, as a small table by value, and the three numbers of a line.
+-- Pieces: the three numbers of a line, what they say, and the instructions of a line or of one end of a pair, written at a place.
 use mathlib.Core.Path.{_≡_}
 use mathlib.Core.Bool.{cond}
-use mathlib.Core.List.{List, [], _∷_}
-use Prim.Native.Nat.{ℕ, zero, suc, _+_, _*_, _≤_}
-use lib.ListN.{length, getD, drop}
+use mathlib.Core.List.{List, [], _∷_, _++_}
+use Prim.Native.Nat.{ℕ, suc, _+_, _*_, _≤_}
+use lib.ListN.{getD}
 use lib.Dec.{eqb}
 use Rattle.theory.specs.Limits
 use Rattle.theory.specs.ProgramText.{Plain, clear, increment, copy, Kind, loop, while, Command, numbers}
-use Rattle.theory.specs.Word.{Instruction, Entry, table-of}
-use Rattle.theory.specs.Translation.{before-body, after-body}
-use Rattle.translation.specs.declared.pieces.Piece.{Piece}
+use Rattle.theory.specs.Text.{Bytes}
+use Rattle.theory.specs.Word.{Instruction, append, forward, cases, one, Entry, table-of, spell-entries, bytes-of}
+use Rattle.theory.specs.Translation.{sharing, returning, before-body, after-body}
+use Rattle.theory.specs.TurnedDown.{total}
+use Rattle.program.specs.Puts.{Put}
 use Rattle.translation.specs.declared.lines.Line.{Line}
 
 -- The three numbers of line n of a list, from 0
@@ -33,6 +35,13 @@ pub record Small (l : Line) (K : ℕ) : Type 0 where
   pub source : l .source ≤ Limits.most-index
   pub variables : K ≤ suc Limits.most-index
 
+-- What stands before the body of a LOOP and of a WHILE on register a, with a transfer of n places
+abbrev pub looping : ℕ → ℕ → ℕ → ℕ → List Instruction
+looping a c t n = sharing a c t ++ (returning t a ++ (cases c ∷ forward n ∷ []))
+
+abbrev pub testing : ℕ → ℕ → List Instruction
+testing a n = cases a ∷ forward n ∷ append one a ∷ []
+
 -- What stands before and after a body of m instructions, of a pair that a line opens inside d loops of a program of K variables
 abbrev pub front : ℕ → ℕ → Line → ℕ → List Instruction
 front K d l m = before-body K d (kind-of (l .kind)) (l .index) m
@@ -40,16 +49,15 @@ front K d l m = before-body K d (kind-of (l .kind)) (l .index) m
 abbrev pub back : ℕ → ℕ → List Instruction
 back n m = after-body (kind-of n) m ∷ []
 
--- The first n kinds and operands
-abbrev pub entries : ℕ → List ℕ → List ℕ → List Entry
-entries zero ks os = []
-entries (suc n) ks os = record { kind = getD ks 0 0; operand = getD os 0 0 } ∷ entries n (drop 1 ks) (drop 1 os)
+-- The text of some entries: each its operand times 1, and then its kind times #
+abbrev pub text : List Entry → Bytes
+text t = bytes-of (spell-entries t)
 
-abbrev pub table : Piece → List Entry
-table p = entries (p .count) (p .kinds) (p .operands)
+-- It was written at a place, over `before`, which is then `after`, up to another
+pub record Spelt (t : List Entry) (place : ℕ) (before after : List ℕ) (end : ℕ) : Type 0 where
+  pub put : Put (text t) place before after end
+  pub ended : end ≡ place + total t
 
--- A piece holds these instructions
-pub record Holds (p : Piece) (w : List Instruction) : Type 0 where
-  pub few : p .count ≤ 12
-  pub count : p .count ≡ length w
-  pub table : table p ≡ table-of w
+-- So were some instructions
+abbrev pub Written : List Instruction → ℕ → List ℕ → List ℕ → ℕ → Type 0
+Written w place before after end = Spelt (table-of w) place before after end

@@ -6,15 +6,14 @@ use Prim.Native.Nat.{ℕ, _+_, _≤_, _<_}
 use lib.ListN.{length, drop}
 use Rattle.theory.specs.Limits
 use Rattle.theory.specs.Basics.{present}
-use Rattle.theory.specs.Text.{Bytes}
 use Rattle.theory.specs.ProgramText.{Command, variables, listed, Block, end, line, pair, lines, blocks}
-use Rattle.theory.specs.Word.{Instruction, Entry, table-of, spell-entries, bytes-of}
+use Rattle.theory.specs.Word.{Instruction, table-of}
 use Rattle.theory.specs.Translation.{code}
 use Rattle.theory.specs.TurnedDown.{done, read-list}
 use Rattle.theory.proofs.Nesting.{nest}
 use Rattle.theory.proofs.Sizes.{weight}
 use Rattle.program.specs.Puts.{Put}
-use Rattle.translation.specs.Pieces.{front, back}
+use Rattle.translation.specs.Pieces.{front, back, text}
 use Rattle.translation.specs.declared.lines.Line.{Line}
 use Rattle.translation.specs.declared.sizes.Extent.{Extent}
 use Rattle.translation.specs.declared.writing.Spot.{Spot}
@@ -94,10 +93,6 @@ module _ (K d : ℕ) (l : Line) (body : Extent) where
     pub instructions : e .instructions ≡ length before + body .instructions + length after
     pub symbols : e .symbols ≡ weight before + body .symbols + weight after
     pub ended : e .next ≡ body .next + 1
-
--- The text of some entries: each its operand times 1, and then its kind times #
-abbrev pub text : List Entry → Bytes
-text t = bytes-of (spell-entries t)
 
 -- Some instructions were written, up to a line
 pub record Wrote (w : List Instruction) (next place : ℕ) (before after : List ℕ) (s : Spot) : Type 0 where

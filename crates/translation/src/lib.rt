@@ -44,7 +44,7 @@ fn put_word(list: &[u8], lines: usize, variables: usize, out: &mut [u8])
     requires { ⌜ Known (now list) lines variables × (length (word-text (program-of (now list))) ≤ length (now out)) ⌝ }
     ensures { λ _. ⌜ now (out .exit) ≡ lent-after (now (out .entry)) (done (word-text (program-of (now (list .entry))))) ⌝ }
 {
-    let place = writing::put_instruction(&mut *out, 0, 1, 3);
+    let place = pieces::put_instruction(&mut *out, 0, 1, 3);
     writing::put_block(list, lines, variables, 0, 0, &mut *out, place);
 }
 

@@ -1,10 +1,11 @@
 // The lines of an accepted list: three numbers each.
 ghost use mathlib.Core.Path.{_≡_};
-ghost use Prim.Native.Nat.{_+_, _*_, _<_};
+ghost use Prim.Native.Nat.{_+_, _*_, _≤_, _<_};
 ghost use lib.ListN.{length};
-ghost use Rattle.translation.specs.Pieces.{numbers-at};
+ghost use Rattle.theory.specs.Limits as Limits;
+ghost use Rattle.theory.specs.Source as S;
+ghost use Rattle.translation.specs.Pieces.{numbers-at, kind-of};
 ghost use Rattle.translation.specs.Sites.{Accepts, block-at, goes-on};
-use crate::pieces;
 
 // The numbers of a command: its kind, its index, and a copy's source.
 pub struct Line {
@@ -20,8 +21,8 @@ pub fn line_at(list: &[u8], at: usize) -> Line
 {
     Line {
         kind: list[3 * at],
-        index: pieces::wide(list[3 * at + 1]),
-        source: pieces::wide(list[3 * at + 2]),
+        index: wide(list[3 * at + 1]),
+        source: wide(list[3 * at + 2]),
     }
 }
 
@@ -39,4 +40,22 @@ pub fn begins(list: &[u8], lines: usize, at: usize) -> bool
     } else {
         false
     }
+}
+
+// The loops around the body of a pair that a line of this kind opens, inside `depth` of them.
+pub fn deeper(kind: u8, depth: usize) -> usize
+    requires { ⌜ depth ≤ Limits.most-open ⌝ }
+    ensures { λ r. ⌜ r ≡ S.deeper (kind-of kind) depth ⌝ }
+{
+    match kind {
+        4 => depth + 1,
+        _ => depth,
+    }
+}
+
+// A byte as a number that can be counted with.
+fn wide(x: u8) -> usize
+    ensures { λ r. ⌜ r ≡ x ⌝ }
+{
+    x as usize
 }

@@ -1,177 +1,161 @@
-// The instructions of a line and of the two ends of a pair, as small tables by value.
+// The instructions of a plain line and of the two ends of a pair, each written at a place of the output.
 ghost use mathlib.Core.Path.{_≡_};
 ghost use mathlib.Core.List.{[], _∷_};
 ghost use Prim.Native.Nat.{_+_, _≤_};
+ghost use lib.ListN.{length, replicate};
 ghost use Rattle.theory.specs.Limits as Limits;
-ghost use Rattle.theory.specs.ProgramText.{loop};
-ghost use Rattle.theory.specs.Source as S;
-ghost use Rattle.theory.specs.Word.{append, forward, cases, one};
-ghost use Rattle.theory.specs.Word as W;
 ghost use Rattle.theory.specs.Translation as T;
-ghost use Rattle.theory.specs.TurnedDown.{total};
-ghost use Rattle.translation.specs.Pieces.{plain-of, kind-of, Small, front, back, table, Holds};
+ghost use Rattle.theory.proofs.Sizes.{weight};
+ghost use Rattle.program.specs.Puts.{Put};
+ghost use Rattle.translation.specs.Pieces.{plain-of, Small, looping, testing, front, back, Spelt, Written};
 use crate::lines::Line;
 
-// Up to twelve instructions, the first `count` of the two arrays.
-pub struct Piece {
-    pub kinds: [u8; 12],
-    pub operands: [usize; 12],
-    pub count: usize,
+// The number of # of an instruction, by its kind.
+const APPEND: usize = 1;
+
+const FORWARD: usize = 3;
+
+const BACKWARD: usize = 4;
+
+const CASES: usize = 5;
+
+// A symbol, so many times.
+fn put_run(out: &mut [u8], place: usize, count: usize, symbol: u8) -> usize
+    requires { ⌜ place + count ≤ length (now out) ⌝ }
+    ensures { λ r. ⌜ Put (replicate count symbol) place (now (out .entry)) (now (out .exit)) r ⌝ }
+{
+    let mut i: usize = 0;
+    while i < count {
+        out[place + i] = symbol;
+        i += 1;
+    }
+    place + count
 }
 
-// "Increment: +a."
-fn appending(a: usize) -> Piece
-    ensures { λ r. ⌜ Holds r (append one a ∷ []) ⌝ }
+// One instruction: `operand` times 1, and then `kind` times #. What it returns, as the functions below do, is the place after it.
+pub fn put_instruction(out: &mut [u8], place: usize, operand: usize, kind: usize) -> usize
+    requires { ⌜ place + (operand + kind) ≤ length (now out) ⌝ }
+    ensures { λ r. ⌜ Spelt (record { kind = kind; operand = operand } ∷ []) place (now (out .entry)) (now (out .exit)) r ⌝ }
 {
-    Piece {
-        kinds: [1, 0, 0, 0, 0, 0, 0, 0, 0, 0, 0, 0],
-        operands: [a, 0, 0, 0, 0, 0, 0, 0, 0, 0, 0, 0],
-        count: 1,
-    }
+    let middle = put_run(&mut *out, place, operand, 49);
+    put_run(&mut *out, middle, kind, 35)
 }
 
-// "Clear: C a, F2, B2."
-fn clearing(a: usize) -> Piece
-    ensures { λ r. ⌜ Holds r (T.clearing a) ⌝ }
+// C a, F2, B2
+fn clearing(out: &mut [u8], place: usize, a: usize) -> usize
+    requires { ⌜ place + weight (T.clearing a) ≤ length (now out) ⌝ }
+    ensures { λ r. ⌜ Written (T.clearing a) place (now (out .entry)) (now (out .exit)) r ⌝ }
 {
-    Piece {
-        kinds: [5, 3, 4, 0, 0, 0, 0, 0, 0, 0, 0, 0],
-        operands: [a, 2, 2, 0, 0, 0, 0, 0, 0, 0, 0, 0],
-        count: 3,
-    }
+    let second = put_instruction(&mut *out, place, a, CASES);
+    let third = put_instruction(&mut *out, second, 2, FORWARD);
+    put_instruction(&mut *out, third, 2, BACKWARD)
 }
 
-// "Copy of a into itself: C a, F2, +a."
-fn touching(a: usize) -> Piece
-    ensures { λ r. ⌜ Holds r (T.touching a) ⌝ }
+// C a, Fn, +a: a copy of a into itself, by n = 2, and what stands before the body of a WHILE
+fn testing(out: &mut [u8], place: usize, a: usize, n: usize) -> usize
+    requires { ⌜ place + weight (testing a n) ≤ length (now out) ⌝ }
+    ensures { λ r. ⌜ Written (testing a n) place (now (out .entry)) (now (out .exit)) r ⌝ }
 {
-    Piece {
-        kinds: [5, 3, 1, 0, 0, 0, 0, 0, 0, 0, 0, 0],
-        operands: [a, 2, a, 0, 0, 0, 0, 0, 0, 0, 0, 0],
-        count: 3,
-    }
+    let second = put_instruction(&mut *out, place, a, CASES);
+    let third = put_instruction(&mut *out, second, n, FORWARD);
+    put_instruction(&mut *out, third, a, APPEND)
 }
 
-// "Copy into b from a, different: C b, F2, B2, C a, F4, +b, +t, B4, C t, F3, +a, B3."
-fn copying(a: usize, b: usize, t: usize) -> Piece
-    ensures { λ r. ⌜ Holds r (T.copying a b t) ⌝ }
+// C a, F4, +b, +t, B4
+fn sharing(out: &mut [u8], place: usize, a: usize, b: usize, t: usize) -> usize
+    requires { ⌜ place + weight (T.sharing a b t) ≤ length (now out) ⌝ }
+    ensures { λ r. ⌜ Written (T.sharing a b t) place (now (out .entry)) (now (out .exit)) r ⌝ }
 {
-    Piece {
-        kinds: [5, 3, 4, 5, 3, 1, 1, 4, 5, 3, 1, 4],
-        operands: [b, 2, 2, a, 4, b, t, 4, t, 3, a, 3],
-        count: 12,
-    }
+    let second = put_instruction(&mut *out, place, a, CASES);
+    let third = put_instruction(&mut *out, second, 4, FORWARD);
+    let fourth = put_instruction(&mut *out, third, b, APPEND);
+    let fifth = put_instruction(&mut *out, fourth, t, APPEND);
+    put_instruction(&mut *out, fifth, 4, BACKWARD)
 }
 
-// "LOOP with a body of m instructions: C a, F4, +c, +t, B4, C t, F3, +a, B3, C c, F(m+2)", before the body.
-fn before_loop(line: Line, variables: usize, depth: usize, m: usize) -> Piece
-    requires { ⌜ Small line variables × (depth ≤ Limits.most-open) × (m ≤ Limits.most-instructions) ⌝ }
-    ensures { λ r. ⌜ Holds r (T.before-body variables depth loop (line .index) m) ⌝ }
+// C t, F3, +a, B3
+fn returning(out: &mut [u8], place: usize, t: usize, a: usize) -> usize
+    requires { ⌜ place + weight (T.returning t a) ≤ length (now out) ⌝ }
+    ensures { λ r. ⌜ Written (T.returning t a) place (now (out .entry)) (now (out .exit)) r ⌝ }
 {
-    let a = line.index + 1;
-    let t = variables + 1;
-    let c = variables + 2 + depth;
-    Piece {
-        kinds: [5, 3, 1, 1, 4, 5, 3, 1, 4, 5, 3, 0],
-        operands: [a, 4, c, t, 4, t, 3, a, 3, c, m + 2, 0],
-        count: 11,
-    }
+    let second = put_instruction(&mut *out, place, t, CASES);
+    let third = put_instruction(&mut *out, second, 3, FORWARD);
+    let fourth = put_instruction(&mut *out, third, a, APPEND);
+    put_instruction(&mut *out, fourth, 3, BACKWARD)
 }
 
-// "WHILE: C a, F(m+3), +a", before the body.
-fn before_while(index: usize, m: usize) -> Piece
-    requires { ⌜ (index ≤ Limits.most-index) × (m ≤ Limits.most-instructions) ⌝ }
-    ensures { λ r. ⌜ Holds r (cases (index + 1) ∷ forward (m + 3) ∷ append one (index + 1) ∷ []) ⌝ }
+// C b, F2, B2, C a, F4, +b, +t, B4, C t, F3, +a, B3
+fn copying(out: &mut [u8], place: usize, a: usize, b: usize, t: usize) -> usize
+    requires { ⌜ place + weight (T.copying a b t) ≤ length (now out) ⌝ }
+    ensures { λ r. ⌜ Written (T.copying a b t) place (now (out .entry)) (now (out .exit)) r ⌝ }
 {
-    let a = index + 1;
-    Piece {
-        kinds: [5, 3, 1, 0, 0, 0, 0, 0, 0, 0, 0, 0],
-        operands: [a, m + 3, a, 0, 0, 0, 0, 0, 0, 0, 0, 0],
-        count: 3,
-    }
-}
-
-// "B(m+2)" or "B(m+3)", after the body.
-fn backward(n: usize) -> Piece
-    ensures { λ r. ⌜ Holds r (W.backward n ∷ []) ⌝ }
-{
-    Piece {
-        kinds: [4, 0, 0, 0, 0, 0, 0, 0, 0, 0, 0, 0],
-        operands: [n, 0, 0, 0, 0, 0, 0, 0, 0, 0, 0, 0],
-        count: 1,
-    }
+    let cleared = clearing(&mut *out, place, b);
+    let shared = sharing(&mut *out, cleared, a, b, t);
+    returning(&mut *out, shared, t, a)
 }
 
 // A plain line of a program of so many variables.
-pub fn plain_line(line: Line, variables: usize) -> Piece
-    requires { ⌜ Small line variables ⌝ }
-    ensures { λ r. ⌜ Holds r (T.plain-code variables (plain-of line)) ⌝ }
+pub fn plain_line(out: &mut [u8], place: usize, line: Line, variables: usize) -> usize
+    requires { ⌜ Small line variables × (place + weight (T.plain-code variables (plain-of line)) ≤ length (now out)) ⌝ }
+    ensures { λ r. ⌜ Written (T.plain-code variables (plain-of line)) place (now (out .entry)) (now (out .exit)) r ⌝ }
 {
+    let b = line.index + 1;
+    let a = line.source + 1;
     let kind = line.kind;
     match kind {
-        1 => clearing(line.index + 1),
-        2 => appending(line.index + 1),
+        1 => clearing(&mut *out, place, b),
+        2 => put_instruction(&mut *out, place, b, APPEND),
         _ => {
             if line.index == line.source {
-                touching(line.source + 1)
+                testing(&mut *out, place, a, 2)
             } else {
-                copying(line.source + 1, line.index + 1, variables + 1)
+                copying(&mut *out, place, a, b, variables + 1)
             }
         }
     }
 }
 
-// What stands before the body of a pair that the line opens, inside `depth` loops, with a body of m instructions.
-pub fn before_body(line: Line, variables: usize, depth: usize, m: usize) -> Piece
-    requires { ⌜ Small line variables × (depth ≤ Limits.most-open) × (m ≤ Limits.most-instructions) ⌝ }
-    ensures { λ r. ⌜ Holds r (front variables depth line m) ⌝ }
+// C a, F4, +c, +t, B4, C t, F3, +a, B3, C c, Fn: what stands before the body of a LOOP
+fn looping(out: &mut [u8], place: usize, a: usize, c: usize, t: usize, n: usize) -> usize
+    requires { ⌜ place + weight (looping a c t n) ≤ length (now out) ⌝ }
+    ensures { λ r. ⌜ Written (looping a c t n) place (now (out .entry)) (now (out .exit)) r ⌝ }
 {
+    let shared = sharing(&mut *out, place, a, c, t);
+    let returned = returning(&mut *out, shared, t, a);
+    let last = put_instruction(&mut *out, returned, c, CASES);
+    put_instruction(&mut *out, last, n, FORWARD)
+}
+
+// What stands before the body of a pair that the line opens, inside `depth` loops, with a body of m instructions.
+pub fn before_body(
+    out: &mut [u8],
+    place: usize,
+    line: Line,
+    variables: usize,
+    depth: usize,
+    m: usize,
+) -> usize
+    requires { ⌜ Small line variables × (depth ≤ Limits.most-open) × (m ≤ Limits.most-instructions)
+        × (place + weight (front variables depth line m) ≤ length (now out)) ⌝ }
+    ensures { λ r. ⌜ Written (front variables depth line m) place (now (out .entry)) (now (out .exit)) r ⌝ }
+{
+    let a = line.index + 1;
+    let t = variables + 1;
+    let c = variables + 2 + depth;
     let kind = line.kind;
     match kind {
-        4 => before_loop(line, variables, depth, m),
-        _ => before_while(line.index, m),
+        4 => looping(&mut *out, place, a, c, t, m + 2),
+        _ => testing(&mut *out, place, a, m + 3),
     }
 }
 
-// What stands after it.
-pub fn after_body(kind: u8, m: usize) -> Piece
-    requires { ⌜ m ≤ Limits.most-instructions ⌝ }
-    ensures { λ r. ⌜ Holds r (back kind m) ⌝ }
+// What stands after it: B(m+2) or B(m+3).
+pub fn after_body(out: &mut [u8], place: usize, kind: u8, m: usize) -> usize
+    requires { ⌜ (m ≤ Limits.most-instructions) × (place + weight (back kind m) ≤ length (now out)) ⌝ }
+    ensures { λ r. ⌜ Written (back kind m) place (now (out .entry)) (now (out .exit)) r ⌝ }
 {
     match kind {
-        4 => backward(m + 2),
-        _ => backward(m + 3),
+        4 => put_instruction(&mut *out, place, m + 2, BACKWARD),
+        _ => put_instruction(&mut *out, place, m + 3, BACKWARD),
     }
-}
-
-// The loops around the body of such a pair.
-pub fn deeper(kind: u8, depth: usize) -> usize
-    requires { ⌜ depth ≤ Limits.most-open ⌝ }
-    ensures { λ r. ⌜ r ≡ S.deeper (kind-of kind) depth ⌝ }
-{
-    match kind {
-        4 => depth + 1,
-        _ => depth,
-    }
-}
-
-// The symbols of a piece.
-pub fn symbols(piece: Piece) -> usize
-    requires { ⌜ (piece .count ≤ 12) × (total (table piece) ≤ Limits.most-symbols) ⌝ }
-    ensures { λ r. ⌜ r ≡ total (table piece) ⌝ }
-{
-    let mut sum: usize = 0;
-    let mut i: usize = 0;
-    while i < piece.count {
-        sum += piece.operands[i] + wide(piece.kinds[i]);
-        i += 1;
-    }
-    sum
-}
-
-// A byte as a number that can be counted with.
-pub fn wide(x: u8) -> usize
-    ensures { λ r. ⌜ r ≡ x ⌝ }
-{
-    x as usize
 }

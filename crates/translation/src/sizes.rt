@@ -5,11 +5,9 @@ ghost use mathlib.Core.Bool.{true};
 ghost use Prim.Native.Nat.{_+_, _≤_, _<_};
 ghost use Rattle.theory.specs.Limits as Limits;
 ghost use Rattle.theory.specs.Translation.{plain-code};
-ghost use Rattle.theory.proofs.Sizes.{weight};
 ghost use Rattle.translation.specs.Pieces.{plain-of, Small};
 ghost use Rattle.translation.specs.Sites.{Site, block-at, goes-on, first, Counted, Counts, Roomy, Around, join};
 use crate::lines;
-use crate::pieces;
 
 // So many instructions and symbols, and the line after what was counted, from 0.
 pub struct Extent {
@@ -18,32 +16,53 @@ pub struct Extent {
     pub next: usize,
 }
 
-// A plain line, at line `at`.
-fn line_size(line: lines::Line, variables: usize, at: usize) -> Extent
-    requires { ⌜ Small line variables × (weight (plain-code variables (plain-of line)) ≤ Limits.most-symbols)
-        × (at < Limits.most-lines) ⌝ }
-    ensures { λ r. ⌜ Counted (plain-code variables (plain-of line)) (at + 1) r ⌝ }
+fn extent_of(instructions: usize, symbols: usize, next: usize) -> Extent
+    ensures { λ r. ⌜ r ≡ record { instructions = instructions; symbols = symbols; next = next } ⌝ }
 {
-    let piece = pieces::plain_line(line, variables);
     Extent {
-        instructions: piece.count,
-        symbols: pieces::symbols(piece),
-        next: at + 1,
+        instructions,
+        symbols,
+        next,
     }
 }
 
-// A body, with what stands before and after it, of a pair that the line opens inside `depth` loops.
+// A plain line, at line `at`: clear, increment, copy to itself, copy.
+fn line_size(line: lines::Line, variables: usize, at: usize) -> Extent
+    requires { ⌜ Small line variables × (at < Limits.most-lines) ⌝ }
+    ensures { λ r. ⌜ Counted (plain-code variables (plain-of line)) (at + 1) r ⌝ }
+{
+    let b = line.index + 1;
+    let a = line.source + 1;
+    let t = variables + 1;
+    let next = at + 1;
+    let kind = line.kind;
+    match kind {
+        1 => extent_of(3, b + 16, next),
+        2 => extent_of(1, b + 1, next),
+        _ => {
+            if line.index == line.source {
+                extent_of(3, 2 * a + 11, next)
+            } else {
+                extent_of(12, 2 * (a + b + t) + 57, next)
+            }
+        }
+    }
+}
+
+// A body, with what stands before and after it, of a LOOP or a WHILE that the line opens inside `depth` loops.
 fn around(line: lines::Line, variables: usize, depth: usize, body: Extent) -> Extent
     requires { ⌜ Small line variables × (depth ≤ Limits.most-open) × Roomy variables depth line body ⌝ }
     ensures { λ r. ⌜ Around variables depth line body r ⌝ }
 {
+    let a = line.index + 1;
+    let t = variables + 1;
+    let c = variables + 2 + depth;
     let m = body.instructions;
-    let before = pieces::before_body(line, variables, depth, m);
-    let after = pieces::after_body(line.kind, m);
-    Extent {
-        instructions: before.count + m + after.count,
-        symbols: pieces::symbols(before) + body.symbols + pieces::symbols(after),
-        next: body.next + 1,
+    let next = body.next + 1;
+    let kind = line.kind;
+    match kind {
+        4 => extent_of(m + 12, 2 * (a + c + t + m) + 57 + body.symbols, next),
+        _ => extent_of(m + 4, 2 * (a + m) + 19 + body.symbols, next),
     }
 }
 
@@ -52,11 +71,11 @@ fn joined(a: Extent, b: Extent) -> Extent
     requires { ⌜ (a .instructions + b .instructions ≤ Limits.most-instructions) × (a .symbols + b .symbols ≤ Limits.most-symbols) ⌝ }
     ensures { λ r. ⌜ r ≡ join a b ⌝ }
 {
-    Extent {
-        instructions: a.instructions + b.instructions,
-        symbols: a.symbols + b.symbols,
-        next: b.next,
-    }
+    extent_of(
+        a.instructions + b.instructions,
+        a.symbols + b.symbols,
+        b.next,
+    )
 }
 
 // The block that begins at line `at`, inside `depth` loops.
@@ -84,7 +103,7 @@ fn pair_size(list: &[u8], lines: usize, variables: usize, depth: usize, at: usiz
     if line.kind <= 3 {
         line_size(line, variables, at)
     } else {
-        let inner = pieces::deeper(line.kind, depth);
+        let inner = lines::deeper(line.kind, depth);
         let body = block_size(list, lines, variables, inner, at + 1);
         around(line, variables, depth, body)
     }

@@ -1,17 +1,9 @@
 -- `put_word` meets its contract: F1, and then the code of the block at the first line.
 use borrow.Author.Needs.{needs}
-use mathlib.Core.List.{[], _∷_}
 use native.Mathlib.Omega.{arith}
-use Rattle.theory.specs.Word.{Entry}
-use Rattle.program.proofs.Puts.{put-length}
-use Rattle.translation.proofs.Puts.{text-length}
 use Rattle.translation.proofs.Wholes.{site, word-length, word-put}
 use Rattle.translation.proofs.put_word.Statement.{statement}
 use Rattle.translation.proofs.put_word.Tie as tie
-
--- F1
-abbrev entry : Entry
-entry = record { kind = 3; operand = 1 }
 
 put-instruction-requires : tie.Need-put-instruction-requires
 put-instruction-requires c κs =
@@ -21,8 +13,7 @@ put-instruction-requires c κs =
 put-block-requires : tie.Need-put-block-requires
 put-block-requires c κs =
     let k : _ = c .before .before .before .before .before .before .before .pre in
-    let p : _ = c .before .before .before .put-instruction .ensures in
-    (site _ _ _ (k .0), omega (arith, k .1, word-length _ _ _ (k .0), p .ended, put-length p, text-length (entry ∷ [])))
+    (site _ _ _ (k .0), omega (arith, k .1, word-length _ _ _ (k .0)))
 
 same-length : tie.Need-same-length
 same-length c = search needs
@@ -30,7 +21,7 @@ same-length c = search needs
 returns : tie.Need-returns
 returns c =
     let k : _ = c .before .before .before .before .before .before .before .before .before .before .pre in
-    let f : _ = c .before .before .before .before .before .before .put-instruction .ensures in
+    let f : _ = c .before .before .before .before .before .before .put-instruction .ensures .put in
     word-put _ _ _ (k .0) _ _ _ _ _ (k .1) f (c .before .before .put-block .ensures)
 
 pub put-word-spec : {M : Type 1} → statement M

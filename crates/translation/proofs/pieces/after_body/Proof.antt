@@ -1,28 +1,47 @@
 -- `after_body` meets its contract: by the kind of pair.
+use native.Mathlib.Omega.{arith}
 use borrow.Author.Needs.{needs}
 use borrow.Author.Tests.{eq-eqb, ne-eqb}
 use Rattle.translation.proofs.pieces.after_body.Statement.{statement}
 use Rattle.translation.proofs.pieces.after_body.Tie as tie
 
-add-backward : tie.Need-add-backward
-add-backward c = search needs
+add-put-instruction : tie.Need-add-put-instruction
+add-put-instruction c = search needs
 
-backward-requires : tie.Need-backward-requires
-backward-requires c κs = search needs
+put-instruction-requires : tie.Need-put-instruction-requires
+put-instruction-requires c κs =
+    let room : _ = rw (eq-eqb _ 4 (c .before .match .keys1)) at (c .before .before .before .pre .1) in
+    omega arith
 
-add-backward-2 : tie.Need-add-backward-2
-add-backward-2 c = search needs
+add-put-instruction-2 : tie.Need-add-put-instruction-2
+add-put-instruction-2 c = search needs
 
-backward-requires-2 : tie.Need-backward-requires-2
-backward-requires-2 c κs = search needs
+put-instruction-requires-2 : tie.Need-put-instruction-requires-2
+put-instruction-requires-2 c κs =
+    let room : _ = rw (ne-eqb _ 4 (c .before .match .rest .1)) at (c .before .before .before .pre .1) in
+    omega arith
+
+same-length : tie.Need-same-length
+same-length c = search needs
 
 returns : tie.Need-returns
-returns c = rw (eq-eqb _ 4 (c .before .match .keys1)) (c .backward .ensures)
+returns c = rw (eq-eqb _ 4 (c .before .before .before .before .match .keys1)) (c .before .before .put-instruction .ensures)
+
+same-length-2 : tie.Need-same-length-2
+same-length-2 c = search needs
 
 returns-2 : tie.Need-returns-2
-returns-2 c = rw (ne-eqb _ 4 (c .before .match .rest .1)) (c .backward2 .ensures)
+returns-2 c = rw (ne-eqb _ 4 (c .before .before .before .before .match .rest .1)) (c .before .before .put-instruction2 .ensures)
 
 pub after-body-spec : {M : Type 1} → statement M
 after-body-spec =
     tie.close
-    (tie.spec add-backward backward-requires add-backward-2 backward-requires-2 returns returns-2)
+    (tie.spec
+    add-put-instruction
+    put-instruction-requires
+    add-put-instruction-2
+    put-instruction-requires-2
+    same-length
+    returns
+    same-length-2
+    returns-2)

@@ -1,75 +1,105 @@
 -- `plain_line` meets its contract: by the kind, and for a copy by its two indices.
+use mathlib.Core.Path.{ap}
+use native.Mathlib.Omega.{arith}
 use borrow.Author.Needs.{needs}
-use borrow.Author.Tests.{eq-eqb, ne-eqb}
-use Rattle.translation.specs.declared.lines.Line.{Line}
+use Rattle.theory.proofs.Sizes.{weight}
+use Rattle.translation.proofs.Plain.{clears, increments, touches, copies}
 use Rattle.translation.proofs.pieces.plain_line.Statement.{statement}
 use Rattle.translation.proofs.pieces.plain_line.Tie as tie
 
-add-clearing : tie.Need-add-clearing
-add-clearing c = search needs
+add-b : tie.Need-add-b
+add-b c = search needs
+
+add-a : tie.Need-add-a
+add-a c = search needs
 
 clearing-requires : tie.Need-clearing-requires
-clearing-requires c κs = search needs
+clearing-requires c κs =
+    let kind : _ = c .before in
+    let a : _ = kind .before .before .before .before .args in
+    omega (arith, ap weight (clears (a .line) (a .variables) (kind .match .keys1)))
 
-add-appending : tie.Need-add-appending
-add-appending c = search needs
+put-instruction-requires : tie.Need-put-instruction-requires
+put-instruction-requires c κs =
+    let kind : _ = c .before in
+    let a : _ = kind .before .before .before .before .args in
+    omega (arith, ap weight (increments (a .line) (a .variables) (kind .match .keys2)))
 
-appending-requires : tie.Need-appending-requires
-appending-requires c κs = search needs
-
-add-touching : tie.Need-add-touching
-add-touching c = search needs
-
-touching-requires : tie.Need-touching-requires
-touching-requires c κs = search needs
+testing-requires : tie.Need-testing-requires
+testing-requires c κs =
+    let test : _ = c .before in
+    let other : _ = test .before .before in
+    let a : _ = other .before .before .before .before .args in
+    omega (arith, ap weight (touches (a .line) (a .variables) (other .match .rest .0 .1) (other .match .rest .1) (test .if1 .taken)))
 
 add-copying : tie.Need-add-copying
 add-copying c = search needs
 
-add-copying-2 : tie.Need-add-copying-2
-add-copying-2 c = search needs
-
-add-copying-3 : tie.Need-add-copying-3
-add-copying-3 c = search needs
-
 copying-requires : tie.Need-copying-requires
-copying-requires c κs = search needs
+copying-requires c κs =
+    let test : _ = c .before in
+    let other : _ = test .before .before in
+    let a : _ = other .before .before .before .before .args in
+    omega (arith, ap weight (copies (a .line) (a .variables) (other .match .rest .0 .1) (other .match .rest .1) (test .if1 .left)))
+
+same-length : tie.Need-same-length
+same-length c = search needs
 
 returns : tie.Need-returns
-returns c = rw (c .before .before .match .keys1) (c .clearing .ensures)
+returns c =
+    let call : _ = c .before .before in
+    let kind : _ = call .before .before in
+    let a : _ = kind .before .before .before .before .args in
+    rw (clears (a .line) (a .variables) (kind .match .keys1)) (call .clearing .ensures)
+
+same-length-2 : tie.Need-same-length-2
+same-length-2 c = search needs
 
 returns-2 : tie.Need-returns-2
-returns-2 c = rw (c .before .before .match .keys2) (c .appending .ensures)
+returns-2 c =
+    let call : _ = c .before .before in
+    let kind : _ = call .before .before in
+    let a : _ = kind .before .before .before .before .args in
+    rw (increments (a .line) (a .variables) (kind .match .keys2)) (call .put-instruction .ensures)
+
+same-length-3 : tie.Need-same-length-3
+same-length-3 c = search needs
 
 returns-3 : tie.Need-returns-3
 returns-3 c =
-    let l : Line = c .before .before .before .before .before .args .line in
-    let rest : _ = c .before .before .before .before .match .rest in
-    let same : _ = eq-eqb (l .index) (l .source) (c .before .before .if1 .taken) in
-    rw (ne-eqb (l .kind) 1 (rest .0 .1), ne-eqb (l .kind) 2 (rest .1), same) (c .touching .ensures)
+    let call : _ = c .before .before in
+    let test : _ = call .before .before in
+    let other : _ = test .before .before in
+    let a : _ = other .before .before .before .before .args in
+    rw (touches (a .line) (a .variables) (other .match .rest .0 .1) (other .match .rest .1) (test .if1 .taken)) (call .testing .ensures)
+
+same-length-4 : tie.Need-same-length-4
+same-length-4 c = search needs
 
 returns-4 : tie.Need-returns-4
 returns-4 c =
-    let l : Line = c .before .before .before .before .before .before .args .line in
-    let rest : _ = c .before .before .before .before .before .match .rest in
-    let other : _ = ne-eqb (l .index) (l .source) (c .before .before .before .if1 .left) in
-    rw (ne-eqb (l .kind) 1 (rest .0 .1), ne-eqb (l .kind) 2 (rest .1), other) (c .copying .ensures)
+    let call : _ = c .before .before in
+    let test : _ = call .before .before in
+    let other : _ = test .before .before in
+    let a : _ = other .before .before .before .before .args in
+    rw (copies (a .line) (a .variables) (other .match .rest .0 .1) (other .match .rest .1) (test .if1 .left)) (call .copying .ensures)
 
 pub plain-line-spec : {M : Type 1} → statement M
 plain-line-spec =
     tie.close
     (tie.spec
-    add-clearing
+    add-b
+    add-a
     clearing-requires
-    add-appending
-    appending-requires
-    add-touching
-    touching-requires
+    put-instruction-requires
+    testing-requires
     add-copying
-    add-copying-2
-    add-copying-3
     copying-requires
+    same-length
     returns
+    same-length-2
     returns-2
+    same-length-3
     returns-3
+    same-length-4
     returns-4)

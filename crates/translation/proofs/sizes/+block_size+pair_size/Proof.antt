@@ -17,7 +17,7 @@ use Rattle.translation.proofs.sizes.pair_size.Kinds as pair-kinds
 use Rattle.translation.proofs.sizes.+block_size+pair_size.Lts-pair_size as pair
 use Rattle.translation.proofs.lines.begins.Reads as begins
 use Rattle.translation.proofs.lines.line_at.Reads as line-at
-use Rattle.translation.proofs.pieces.deeper.Reads as deeper
+use Rattle.translation.proofs.lines.deeper.Reads as deeper
 use Rattle.translation.proofs.sizes.around.Reads as around
 use Rattle.translation.proofs.sizes.joined.Reads as joined
 use Rattle.translation.proofs.sizes.line_size.Reads as line-size

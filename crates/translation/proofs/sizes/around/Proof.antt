@@ -1,68 +1,100 @@
--- `around` meets its contract: the sums are those of the two pieces and the body.
-use mathlib.Core.Path.{refl, ap}
+-- `around` meets its contract: by the kind of pair.
+use mathlib.Core.Path.{refl}
 use native.Mathlib.Omega.{arith}
+use borrow.Author.Tests.{eq-eqb, ne-eqb}
 use borrow.Author.Needs.{needs}
-use Rattle.theory.specs.TurnedDown.{total}
 use Rattle.translation.proofs.sizes.around.Statement.{statement}
 use Rattle.translation.proofs.sizes.around.Tie as tie
 
-before-body-requires : tie.Need-before-body-requires
-before-body-requires c κs = search needs
+add-a : tie.Need-add-a
+add-a c = search needs
 
-after-body-requires : tie.Need-after-body-requires
-after-body-requires c κs = search needs
+add-t : tie.Need-add-t
+add-t c = search needs
 
-add-t8 : tie.Need-add-t8
-add-t8 c = search needs
+add-c : tie.Need-add-c
+add-c c = search needs
 
-add-t9 : tie.Need-add-t9
-add-t9 c = search needs
+add-c-2 : tie.Need-add-c-2
+add-c-2 c = search needs
 
-symbols-requires : tie.Need-symbols-requires
-symbols-requires c κs =
-    let b : _ = c .before .before .before .before-body .ensures in
-    omega (arith, ap total (b .table))
+add-next : tie.Need-add-next
+add-next c = search needs
 
-add-t11 : tie.Need-add-t11
-add-t11 c =
-    let b : _ = c .before .before .before .before .before .before-body .ensures in
-    omega (arith, ap total (b .table))
+add-extent-of : tie.Need-add-extent-of
+add-extent-of c = search needs
 
-symbols-requires-2 : tie.Need-symbols-requires-2
-symbols-requires-2 c κs =
-    let a : _ = c .before .before .before .before .after-body .ensures in
-    omega (arith, ap total (a .table))
+add-extent-of-2 : tie.Need-add-extent-of-2
+add-extent-of-2 c = search needs
 
-add-t13 : tie.Need-add-t13
-add-t13 c =
-    let b : _ = c .before .before .before .before .before .before .before-body .ensures in
-    let a : _ = c .before .before .before .before .before .after-body .ensures in
-    omega (arith, ap total (a .table), ap total (b .table))
+add-extent-of-3 : tie.Need-add-extent-of-3
+add-extent-of-3 c = search needs
 
-add-t14 : tie.Need-add-t14
-add-t14 c = search needs
+add-extent-of-4 : tie.Need-add-extent-of-4
+add-extent-of-4 c = search needs
+
+mul-extent-of : tie.Need-mul-extent-of
+mul-extent-of c = search needs
+
+add-extent-of-5 : tie.Need-add-extent-of-5
+add-extent-of-5 c = search needs
+
+add-extent-of-6 : tie.Need-add-extent-of-6
+add-extent-of-6 c = search needs
+
+extent-of-requires : tie.Need-extent-of-requires
+extent-of-requires c κs = search needs
+
+add-extent-of-7 : tie.Need-add-extent-of-7
+add-extent-of-7 c = search needs
+
+add-extent-of-8 : tie.Need-add-extent-of-8
+add-extent-of-8 c = search needs
+
+mul-extent-of-2 : tie.Need-mul-extent-of-2
+mul-extent-of-2 c = search needs
+
+add-extent-of-9 : tie.Need-add-extent-of-9
+add-extent-of-9 c = search needs
+
+add-extent-of-10 : tie.Need-add-extent-of-10
+add-extent-of-10 c = search needs
+
+extent-of-requires-2 : tie.Need-extent-of-requires-2
+extent-of-requires-2 c κs = search needs
 
 returns : tie.Need-returns
 returns c =
-    let b : _ = c .before .before .before .before .before .before .before .before-body .ensures in
-    let a : _ = c .before .before .before .before .before .before .after-body .ensures in
-    record {
-      instructions = omega (arith, b .count, a .count);
-      symbols = omega (arith, ap total (a .table), ap total (b .table));
-      ended = refl;
-    }
+    let loops : _ = eq-eqb _ 4 (c .before .before .match .keys1) in
+    rw (c .extent-of .ensures) (record { instructions = rw loops (omega arith); symbols = rw loops (omega arith); ended = refl })
+
+returns-2 : tie.Need-returns-2
+returns-2 c =
+    let whiles : _ = ne-eqb _ 4 (c .before .before .match .rest .1) in
+    rw (c .extent-of2 .ensures) (record { instructions = rw whiles (omega arith); symbols = rw whiles (omega arith); ended = refl })
 
 pub around-spec : {M : Type 1} → statement M
 around-spec =
     tie.close
     (tie.spec
-    before-body-requires
-    after-body-requires
-    add-t8
-    add-t9
-    symbols-requires
-    add-t11
-    symbols-requires-2
-    add-t13
-    add-t14
-    returns)
+    add-a
+    add-t
+    add-c
+    add-c-2
+    add-next
+    add-extent-of
+    add-extent-of-2
+    add-extent-of-3
+    add-extent-of-4
+    mul-extent-of
+    add-extent-of-5
+    add-extent-of-6
+    extent-of-requires
+    add-extent-of-7
+    add-extent-of-8
+    mul-extent-of-2
+    add-extent-of-9
+    add-extent-of-10
+    extent-of-requires-2
+    returns
+    returns-2)

@@ -3,6 +3,7 @@
 use mathlib.Core.Path.{sym, _∙_}
 use Prim.Native.Nat.{ℕ, _<_, _+_, _-_, _*_}
 use native.Mathlib.Omega.{arith}
+use borrow.Author.Needs.{needs}
 use borrow.Fn.Kinds.{In}
 use borrow.Fn.PlainCycle.{Measures, is, falls, and}
 use Rattle.translation.proofs.Sites.{bounds}
@@ -19,10 +20,10 @@ use Rattle.translation.proofs.writing.put_pair.Kinds as pair-kinds
 use Rattle.translation.proofs.writing.+put_block+put_pair.Lts-put_pair as pair
 use Rattle.translation.proofs.lines.begins.Reads as begins
 use Rattle.translation.proofs.lines.line_at.Reads as line-at
-use Rattle.translation.proofs.pieces.deeper.Reads as deeper
+use Rattle.translation.proofs.lines.deeper.Reads as deeper
 use Rattle.translation.proofs.sizes.block_size.Reads as block-size
 use Rattle.translation.proofs.writing.put_after.Reads as put-after
-use Rattle.translation.proofs.writing.put_before.Reads as put-before
+use Rattle.translation.proofs.pieces.before_body.Reads as before-body
 use Rattle.translation.proofs.writing.put_line.Reads as put-line
 use Rattle.translation.proofs.writing.+put_block+put_pair.{statement}
 use Rattle.translation.proofs.writing.+put_block+put_pair.Tie.{close}
@@ -69,8 +70,8 @@ module _ (t : ℕ) where
     deeper.Learnt,
     block-size.Asked,
     block-size.Learnt,
-    put-before.Asked,
-    put-before.Learnt,
+    before-body.Asked,
+    before-body.Learnt,
     block-below,
     block-reads.Post,
     put-after.Asked,
@@ -139,7 +140,7 @@ module _ (t : ℕ) where
       let p : _ = pair-at _ _ _ _ _ (q .0) (q .1) _ (l .line-at .ensures) (c .before .if1 .left) in
       rw (c .deeper .ensures) (p .site)
 
-  pair-front : pair.Need-put-before-requires in-pair pair-here pair-reads.Post
+  pair-front : pair.Need-before-body-requires in-pair pair-here pair-reads.Post
   pair-front c κs =
       let z : _ = c .before in
       let d : _ = z .before in
@@ -158,7 +159,7 @@ module _ (t : ℕ) where
       let q : _ = l .before .before .before .pre .1 in
       let p : _ = pair-at _ _ _ _ _ (q .0) (q .1) _ (l .line-at .ensures) (d .before .if1 .left) in
       let room : _ =
-      body-room _ _ _ _ _ (q .0) (q .1) _ p _ (d .deeper .ensures) _ (z .block-size .ensures) _ _ (q .2) _ _ (f .put-before .ensures) in
+      body-room _ _ _ _ _ (q .0) (q .1) _ p _ (d .deeper .ensures) _ (z .block-size .ensures) _ _ (q .2) _ _ (f .before-body .ensures .put) in
       (omega (arith, W.here _ _ _ _ _ (q .0) (q .1) .below), (rw (d .deeper .ensures) (p .site), room))
 
   pair-back : pair.Need-put-after-requires in-pair pair-here pair-reads.Post
@@ -171,10 +172,10 @@ module _ (t : ℕ) where
       let q : _ = l .before .before .before .pre .1 in
       let p : _ = pair-at _ _ _ _ _ (q .0) (q .1) _ (l .line-at .ensures) (d .before .if1 .left) in
       back-room _ _ _ _ _ (q .0) (q .1) _ p _ (d .deeper .ensures) _ (z .block-size .ensures) _ _ (q .2) _ _ _ _
-      (f .put-before .ensures) (b .put-block .ensures)
+      (f .before-body .ensures .put) (b .put-block .ensures)
 
   pair-length : pair.Need-same-length in-pair pair-here pair-reads.Post
-  pair-length c = put-length (c .before .before .put-line .ensures .put)
+  pair-length c = search needs
 
   pair-returns : pair.Need-returns in-pair pair-here pair-reads.Post
   pair-returns c =
@@ -185,11 +186,7 @@ module _ (t : ℕ) where
       plain-writes _ _ _ _ _ (q .0) (q .1) _ p _ _ _ _ (w .put-line .ensures)
 
   pair-length-2 : pair.Need-same-length-2 in-pair pair-here pair-reads.Post
-  pair-length-2 c =
-      let a : _ = c .before .before in
-      let b : _ = a .before .before .before .before in
-      let f : _ = b .before .before .before .before in
-      put-length (a .put-after .ensures .put) ∙ (put-length (b .put-block .ensures .put) ∙ put-length (f .put-before .ensures))
+  pair-length-2 c = search needs
 
   pair-returns-2 : pair.Need-returns-2 in-pair pair-here pair-reads.Post
   pair-returns-2 c =
@@ -202,7 +199,7 @@ module _ (t : ℕ) where
       let q : _ = l .before .before .before .pre .1 in
       let p : _ = pair-at _ _ _ _ _ (q .0) (q .1) _ (l .line-at .ensures) (d .before .if1 .left) in
       pair-writes _ _ _ _ _ (q .0) (q .1) _ p _ (d .deeper .ensures) _ (z .block-size .ensures) _ _ (q .2) _ _ _ _ _ _
-      (f .put-before .ensures) (b .put-block .ensures) (a .put-after .ensures)
+      (f .before-body .ensures .put) (b .put-block .ensures) (a .put-after .ensures)
 
 pub +put-block+put-pair-spec : {M : Type 1} → statement M
 +put-block+put-pair-spec =

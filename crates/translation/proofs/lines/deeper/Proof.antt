@@ -2,8 +2,8 @@
 use native.Mathlib.Numerals.{add-one}
 use borrow.Author.Needs.{needs}
 use borrow.Author.Tests.{eq-eqb, ne-eqb}
-use Rattle.translation.proofs.pieces.deeper.Statement.{statement}
-use Rattle.translation.proofs.pieces.deeper.Tie as tie
+use Rattle.translation.proofs.lines.deeper.Statement.{statement}
+use Rattle.translation.proofs.lines.deeper.Tie as tie
 
 add-result : tie.Need-add-result
 add-result c = search needs

@@ -6,8 +6,8 @@ use borrow.Author.Needs.{needs}
 use lib.ListN.{length, replicate, length-set, length-replicate}
 use lib.Seq.{sets}
 use Rattle.translation.proofs.Puts.{run-more}
-use Rattle.translation.proofs.writing.put_run.Statement.{statement}
-use Rattle.translation.proofs.writing.put_run.Tie as tie
+use Rattle.translation.proofs.pieces.put_run.Statement.{statement}
+use Rattle.translation.proofs.pieces.put_run.Tie as tie
 
 abbrev Inv-loop : tie.InvT-loop
 Inv-loop out₀ place count symbol i₀ out i = (i ≤ count) × (length out ≡ length out₀) × (out ≡ sets out₀ place (replicate i symbol))

@@ -3,10 +3,9 @@ use Prim.Native.Nat.{ℕ}
 use native.Mathlib.Omega.{arith}
 use lib.ListN.{length-replicate}
 use borrow.Author.Needs.{needs}
-use Rattle.program.proofs.Puts.{put-then}
-use Rattle.translation.proofs.Puts.{text-entry}
-use Rattle.translation.proofs.writing.put_instruction.Statement.{statement}
-use Rattle.translation.proofs.writing.put_instruction.Tie as tie
+use Rattle.translation.proofs.Puts.{spelt-entry}
+use Rattle.translation.proofs.pieces.put_instruction.Statement.{statement}
+use Rattle.translation.proofs.pieces.put_instruction.Tie as tie
 
 put-run-requires : tie.Need-put-run-requires
 put-run-requires c κs = search needs
@@ -22,8 +21,7 @@ same-length c = search needs
 
 returns : tie.Need-returns
 returns c =
-    rw text-entry
-    (put-then (c .before .before .before .before .before .before .put-run .ensures) (c .before .before .put-run2 .ensures))
+    spelt-entry _ (c .before .before .before .before .before .before .put-run .ensures) (c .before .before .put-run2 .ensures)
 
 pub put-instruction-spec : {M : Type 1} → statement M
 put-instruction-spec = tie.close (tie.spec put-run-requires put-run-requires-2 same-length returns)
