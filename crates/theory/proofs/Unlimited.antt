@@ -158,13 +158,13 @@ source-not-full room p s = go (eqb (s .line) (suc (length p)))
 pub word-not-full : (room : Room) (w : List Instruction) (s : W.State) → W.machine room w .ended s ≢ some Full
 word-not-full room w s = go (s .place)
   where
-    at-place : (t t′ : Bool) → cond t (some Halted) (cond t′ none (some Strayed)) ≢ some Full
-    at-place true t′ e = never (cc)
-    at-place false true e = never (cc)
-    at-place false false e = never (cc)
+    either : (t : Bool) {a b : Option End} → a ≢ some Full → b ≢ some Full → cond t a b ≢ some Full
+    either true f g = f
+    either false f g = g
 
     go : (q : ℤ) → W.ended-at (length w) q ≢ some Full
-    go (pos n) e = at-place (eqb n (suc (length w))) (leb 1 n && leb n (length w)) e
+    go (pos n) e =
+        either (eqb n (suc (length w))) (λ f. never (cc)) (either (leb 1 n && leb n (length w)) (λ f. never (cc)) (λ f. never (cc))) e
     go (negsuc n) e = never (cc)
 
 pub source-unlimited : SourceUnlimited

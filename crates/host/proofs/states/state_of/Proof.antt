@@ -1,4 +1,4 @@
--- `` meets its contract.
+-- `states::state_of` meets its contract. Each part that is copied is a part of the numbers.
 use borrow.Author.Needs.{needs}
 use Rattle.host.specs.States.{state-of}
 use Rattle.host.proofs.states.state_of.Statement.{statement}
@@ -45,7 +45,9 @@ shared-slice-read-t21 c = search needs
 
 returns : tie.Need-returns
 unfolding state-of
-returns c = cc
+returns c =
+    let at-passes = c .before .before .before .before in
+    rw (at-passes .before .before .before .before .copy .ensures, at-passes .copy2 .ensures)
 
 pub state-of-spec : {M : Type 1} → statement M
 state-of-spec =
