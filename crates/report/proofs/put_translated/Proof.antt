@@ -17,19 +17,19 @@ use Rattle.report.proofs.put_translated.Statement.{statement}
 use Rattle.report.proofs.put_translated.Tie as tie
 
 slice-aggregate-translate-list : tie.Need-slice-aggregate-translate-list
-slice-aggregate-translate-list c = length-replicate {A = ℕ} 65536 0
+slice-aggregate-translate-list c = search needs
 
 translate-list-requires : tie.Need-translate-list-requires
-translate-list-requires c κs = tt
+translate-list-requires c κs = search needs
 
 enum-known-r : tie.Need-enum-known-r
-enum-known-r c = c .match .keys1
+enum-known-r c = search needs
 
 put-refusal-requires : tie.Need-put-refusal-requires
-put-refusal-requires c κs = tt
+put-refusal-requires c κs = search needs
 
 enum-known-size : tie.Need-enum-known-size
-enum-known-size c = c .match .keys2
+enum-known-size c = search needs
 
 -- The word that is in the buffer
 held : (c : tie.After-size) → let called = c .before .before .before in

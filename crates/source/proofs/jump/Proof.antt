@@ -1,10 +1,9 @@
 -- `jump` makes the step at a line of a pair: each way cites the law of its kind. Assumes nothing.
 use Prim.Native.Nat.{_<_, _-_}
 use native.Mathlib.Omega.{arith}
-use lib.ListN.{length-set}
+use borrow.Author.Needs.{needs}
 use Rattle.source.specs.Lines.{Ready}
-use Rattle.source.proofs.Bounds.{target-in, entry-in, kind-in, first-number-in, first-in, opened-in, closed-in}
-use Rattle.source.proofs.Bounds.{next-fits, target-fits, kind-fits, first-number-fits, first-fits, opened-fits, closed-fits}
+use Rattle.source.proofs.Bounds.{few, numbers-in, target-in, entry-in, first-in, opened-in, closed-in}
 use Rattle.source.proofs.Steps.{kind-at, of-last-kind, loop-past, loop-in, loop-ends, loop-again, while-past, while-in, while-back}
 use Rattle.source.proofs.jump.Statement.{statement}
 use Rattle.source.proofs.jump.Tie as tie
@@ -15,13 +14,13 @@ abbrev ready : (c : tie.Start)
 ready c = c .pre .0
 
 sub-here : tie.Need-sub-here
-sub-here c = ready c .low
+sub-here c = search needs
 
 add-next : tie.Need-add-next
-add-next c = next-fits (ready c)
+add-next c = omega (arith, few (ready c))
 
 mul-target : tie.Need-mul-target
-mul-target c = target-fits (ready c)
+mul-target c = omega (arith, few (ready c))
 
 shared-slice-read-target : tie.Need-shared-slice-read-target
 shared-slice-read-target c = target-in (ready (c .before))
@@ -30,28 +29,30 @@ cast-target : tie.Need-cast-target
 cast-target c = omega (arith, c .shared-slice-known .given (c .before .args .line - 1))
 
 mul-k : tie.Need-mul-k
-mul-k c = kind-fits (ready (c .before))
+mul-k c = omega (arith, few (ready (c .before)))
 
 add-k : tie.Need-add-k
-add-k c = first-number-fits (ready (c .before))
+add-k c = omega (arith, few (ready (c .before)))
 
 shared-slice-read-k : tie.Need-shared-slice-read-k
-shared-slice-read-k c = first-number-in (ready (c .before .before))
+shared-slice-read-k c =
+    omega (arith, numbers-in (ready (c .before .before)))
 
 cast-k : tie.Need-cast-k
-cast-k c = first-fits (ready (c .before .before)) .0
+cast-k c = omega (arith, first-in (ready (c .before .before)))
 
 mul-k-2 : tie.Need-mul-k-2
-mul-k-2 c = first-fits (ready (c .before .before)) .1
+mul-k-2 c = omega (arith, first-in (ready (c .before .before)))
 
 shared-slice-read-k-2 : tie.Need-shared-slice-read-k-2
 shared-slice-read-k-2 c = first-in (ready (c .before .before .before)) .0
 
 mul-match : tie.Need-mul-match
-mul-match c = kind-fits (ready (c .before .before .before))
+mul-match c = omega (arith, few (ready (c .before .before .before)))
 
 shared-slice-read-match : tie.Need-shared-slice-read-match
-shared-slice-read-match c = kind-in (ready (c .before .before .before .before))
+shared-slice-read-match c =
+    omega (arith, numbers-in (ready (c .before .before .before .before)))
 
 returns : tie.Need-returns
 returns c capacity =
@@ -64,10 +65,14 @@ shared-slice-read-passes c =
     entry-in (ready (c .before .before .before .before .before .before .before))
 
 cast-passes : tie.Need-cast-passes
-cast-passes c = opened-fits (ready (c .before .before .before .before .before .before .before)) (c .before .before .match .keys1) .0
+cast-passes c =
+    let s : tie.Start = c .before .before .before .before .before .before .before in
+    omega (arith, opened-in (ready s) (c .before .before .match .keys1))
 
 mul-passes : tie.Need-mul-passes
-mul-passes c = opened-fits (ready (c .before .before .before .before .before .before .before)) (c .before .before .match .keys1) .1
+mul-passes c =
+    let s : tie.Start = c .before .before .before .before .before .before .before in
+    omega (arith, opened-in (ready s) (c .before .before .match .keys1))
 
 slice-write-passes : tie.Need-slice-write-passes
 slice-write-passes c = opened-in (ready (c .before .before .before .before .before .before .before)) (c .before .before .match .keys1) .0
@@ -77,23 +82,29 @@ shared-slice-read-d c =
     entry-in (ready (c .before .before .before .before .before .before))
 
 cast-d : tie.Need-cast-d
-cast-d c = closed-fits (ready (c .before .before .before .before .before .before)) (c .before .match .keys2) .0
+cast-d c =
+    let s : tie.Start = c .before .before .before .before .before .before in
+    omega (arith, closed-in (ready s) (c .before .match .keys2))
 
 mul-left : tie.Need-mul-left
-mul-left c = closed-fits (ready (c .before .before .before .before .before .before)) (c .before .match .keys2) .1
+mul-left c =
+    let s : tie.Start = c .before .before .before .before .before .before in
+    omega (arith, closed-in (ready s) (c .before .match .keys2))
 
 slice-read-left : tie.Need-slice-read-left
 slice-read-left c = closed-in (ready (c .before .before .before .before .before .before .before)) (c .before .before .match .keys2) .0
 
 mul-passes-2 : tie.Need-mul-passes-2
-mul-passes-2 c = closed-fits (ready (c .before .before .before .before .before .before .before .before)) (c .before .before .before .match .keys2) .1
+mul-passes-2 c =
+    let s : tie.Start = c .before .before .before .before .before .before .before .before in
+    omega (arith, closed-in (ready s) (c .before .before .before .match .keys2))
 
 slice-write-passes-2 : tie.Need-slice-write-passes-2
 slice-write-passes-2 c =
     closed-in (ready (c .before .before .before .before .before .before .before .before)) (c .before .before .before .match .keys2) .0
 
 same-length : tie.Need-same-length
-same-length c = simp length-set
+same-length c = search needs
 
 returns-2 : tie.Need-returns-2
 returns-2 c capacity =
@@ -106,7 +117,9 @@ sub-passes : tie.Need-sub-passes
 sub-passes c = omega arith
 
 mul-passes-3 : tie.Need-mul-passes-3
-mul-passes-3 c = closed-fits (ready (c .before .before .before .before .before .before .before .before)) (c .before .before .before .match .keys2) .1
+mul-passes-3 c =
+    let s : tie.Start = c .before .before .before .before .before .before .before .before in
+    omega (arith, closed-in (ready s) (c .before .before .before .match .keys2))
 
 slice-write-passes-3 : tie.Need-slice-write-passes-3
 slice-write-passes-3 c =
@@ -119,7 +132,7 @@ returns-3 c capacity =
     while-past _ (r .filled .holds) capacity _ (r .low) (r .high) _ _ _ _ (r .filled) (c .before .match .keys3) (c .if3 .taken)
 
 same-length-2 : tie.Need-same-length-2
-same-length-2 c = simp length-set
+same-length-2 c = search needs
 
 returns-4 : tie.Need-returns-4
 returns-4 c capacity =
@@ -129,7 +142,7 @@ returns-4 c capacity =
     loop-in _ (r .filled .holds) capacity _ (r .low) (r .high) _ _ _ _ (r .filled) e (c .before .if1 .left) (opened-in r e .0)
 
 same-length-3 : tie.Need-same-length-3
-same-length-3 c = simp length-set
+same-length-3 c = search needs
 
 returns-5 : tie.Need-returns-5
 returns-5 c capacity =

@@ -1,9 +1,7 @@
 -- `step` makes the step at a line: each way at a plain line cites the law of its kind, and `jump` makes the others. Assumes nothing.
 use native.Mathlib.Omega.{arith}
-use lib.ListN.{length-set}
 use borrow.Author.Needs.{needs}
-use Rattle.source.proofs.Bounds.{numbers-in, kind-in, first-number-in, first-in, second-in, pair-line}
-use Rattle.source.proofs.Bounds.{next-fits, kind-fits, first-number-fits, second-number-fits, first-fits, second-fits}
+use Rattle.source.proofs.Bounds.{few, numbers-in, first-in, second-in, pair-line}
 use Rattle.source.proofs.Steps.{clears, counts, counts-full, copies, copies-full}
 use Rattle.source.proofs.step.Statement.{statement}
 use Rattle.source.proofs.step.Tie as tie
@@ -16,37 +14,37 @@ abbrev asked : tie.After-shared-slice-known5 → tie.Start
 asked c = start (c .before .before)
 
 sub-here : tie.Need-sub-here
-sub-here c = start c .pre .low
+sub-here c = omega (arith, start c .pre .low)
 
 add-next : tie.Need-add-next
-add-next c = next-fits (start c .pre)
+add-next c = omega (arith, few (start c .pre))
 
 mul-i : tie.Need-mul-i
-mul-i c = kind-fits (start c .pre)
+mul-i c = omega (arith, few (start c .pre))
 
 add-i : tie.Need-add-i
-add-i c = first-number-fits (start c .pre)
+add-i c = omega (arith, few (start c .pre))
 
 shared-slice-read-i : tie.Need-shared-slice-read-i
-shared-slice-read-i c = first-number-in (start (c .before) .pre)
+shared-slice-read-i c = omega (arith, numbers-in (start (c .before) .pre))
 
 cast-i : tie.Need-cast-i
-cast-i c = first-fits (start (c .before) .pre) .0
+cast-i c = omega (arith, first-in (start (c .before) .pre))
 
 mul-match : tie.Need-mul-match
-mul-match c = kind-fits (start (c .before) .pre)
+mul-match c = omega (arith, few (start (c .before) .pre))
 
 shared-slice-read-match : tie.Need-shared-slice-read-match
-shared-slice-read-match c = kind-in (asked c .pre)
+shared-slice-read-match c = omega (arith, numbers-in (asked c .pre))
 
 mul-values : tie.Need-mul-values
-mul-values c = first-fits (asked (c .before) .pre) .1
+mul-values c = omega (arith, first-in (asked (c .before) .pre))
 
 slice-write-values : tie.Need-slice-write-values
 slice-write-values c = first-in (asked (c .before) .pre) .0
 
 mul-v : tie.Need-mul-v
-mul-v c = first-fits (asked (c .before) .pre) .1
+mul-v c = omega (arith, first-in (asked (c .before) .pre))
 
 slice-read-v : tie.Need-slice-read-v
 slice-read-v c = first-in (asked (c .before .before) .pre) .0
@@ -60,25 +58,25 @@ add-values : tie.Need-add-values
 add-values c = search needs
 
 mul-values-2 : tie.Need-mul-values-2
-mul-values-2 c = first-fits (asked (c .before .before .before) .pre) .1
+mul-values-2 c = omega (arith, first-in (asked (c .before .before .before) .pre))
 
 slice-write-values-2 : tie.Need-slice-write-values-2
 slice-write-values-2 c = first-in (asked (c .before .before .before) .pre) .0
 
 mul-v-2 : tie.Need-mul-v-2
-mul-v-2 c = kind-fits (asked (c .before) .pre)
+mul-v-2 c = omega (arith, few (asked (c .before) .pre))
 
 add-v : tie.Need-add-v
-add-v c = second-number-fits (asked (c .before) .pre)
+add-v c = omega (arith, few (asked (c .before) .pre))
 
 shared-slice-read-v : tie.Need-shared-slice-read-v
 shared-slice-read-v c = numbers-in (asked (c .before .before) .pre)
 
 cast-v : tie.Need-cast-v
-cast-v c = second-fits (asked (c .before .before) .pre) (c .before .match .keys3) .0
+cast-v c = omega (arith, second-in (asked (c .before .before) .pre) (c .before .match .keys3))
 
 mul-v-3 : tie.Need-mul-v-3
-mul-v-3 c = second-fits (asked (c .before .before) .pre) (c .before .match .keys3) .1
+mul-v-3 c = omega (arith, second-in (asked (c .before .before) .pre) (c .before .match .keys3))
 
 slice-read-v-2 : tie.Need-slice-read-v-2
 slice-read-v-2 c = second-in (asked (c .before .before .before) .pre) (c .before .before .match .keys3) .0
@@ -89,7 +87,7 @@ returns-2 c =
     copies-full _ (r .filled .holds) _ _ (r .low) (r .high) _ _ (c .before .before .before .match .keys3) (c .if2 .taken)
 
 mul-values-3 : tie.Need-mul-values-3
-mul-values-3 c = first-fits (asked (c .before .before .before .before) .pre) .1
+mul-values-3 c = omega (arith, first-in (asked (c .before .before .before .before) .pre))
 
 slice-write-values-3 : tie.Need-slice-write-values-3
 slice-write-values-3 c = first-in (asked (c .before .before .before .before) .pre) .0
@@ -101,7 +99,7 @@ jump-requires c κs =
     (r, pair-line r (other .0 .0 .1) (other .0 .1) (other .1))
 
 same-length : tie.Need-same-length
-same-length c = simp length-set
+same-length c = search needs
 
 returns-3 : tie.Need-returns-3
 returns-3 c =
@@ -109,7 +107,7 @@ returns-3 c =
     clears _ (r .filled .holds) _ _ (r .low) (r .high) _ _ (c .match .keys1) (first-in r .0)
 
 same-length-2 : tie.Need-same-length-2
-same-length-2 c = simp length-set
+same-length-2 c = search needs
 
 returns-4 : tie.Need-returns-4
 returns-4 c =
@@ -117,7 +115,7 @@ returns-4 c =
     counts _ (r .filled .holds) _ _ (r .low) (r .high) _ _ (c .before .before .match .keys2) (first-in r .0) (c .if1 .left)
 
 same-length-3 : tie.Need-same-length-3
-same-length-3 c = simp length-set
+same-length-3 c = search needs
 
 returns-5 : tie.Need-returns-5
 returns-5 c =
