@@ -6,7 +6,6 @@ pub mod Unlimited
 pub mod GoodMemory
 pub mod GoodSource
 pub mod Table
-pub mod ExamplesHold
 pub mod Faults
 pub mod Words
 pub mod Endings

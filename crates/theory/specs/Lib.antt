@@ -12,4 +12,3 @@ pub mod TurnedDown
 pub mod RunTool
 pub mod Claims
 pub mod Bench
-pub mod Examples

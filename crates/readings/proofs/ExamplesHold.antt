@@ -1,17 +1,17 @@
 -- The rest of the bench examples and the easily misread places hold, by computation.
 use mathlib.Core.Path.{refl}
 use Rattle.theory.specs.Basics.{put}
 use Rattle.theory.specs.Text as T
 use Rattle.theory.specs.ProgramText as P
 use Rattle.theory.specs.Runs as R
 use Rattle.theory.specs.Source as S
 use Rattle.theory.specs.Word as W
 use Rattle.theory.specs.Translation as X
 use Rattle.theory.specs.Machines as M
 use Rattle.theory.specs.RunSheet as H
 use Rattle.theory.specs.TurnedDown as D
 use Rattle.theory.specs.RunTool as U
-use Rattle.theory.specs.Examples.{ExamplesHold, bench, texts, words, states, ends, sheets, examples}
+use Rattle.readings.specs.Examples.{ExamplesHold, bench, texts, words, states, ends, sheets, examples}
 
 pub examples-hold : ExamplesHold
 unfolding examples bench texts words states ends sheets put
