@@ -9,14 +9,9 @@ use lib.ListN.{length, set, take, getD, length-append}
 use lib.Seq.{sets, length-sets, take-suc}
 use Rattle.theory.specs.Text.{Bytes, bytes, blank, LF}
 use Rattle.theory.specs.declared.Refusal.{Refusal}
+use Rattle.theory.proofs.Writes.{sets-append}
 use Rattle.report.specs.Puts.{Put, Few, field, ended, row-line, refusal-line}
 use Rattle.report.specs.declared.writing.Row.{Row}
-
-pub sets-append : (u v l : Bytes) (i : ℕ) → sets l i (u ++ v) ≡ sets (sets l i u) (i + length u) v
-sets-append [] v l i = rw (add-zero i)
-sets-append (b ∷ u) v l i =
-    let next : suc i + length u ≡ i + suc (length u) = omega arith in
-    sets-append u v (set l i b) (suc i) ∙ ap {B = Bytes} (λ k. sets (sets (set l i b) (suc i) u) k v) next
 
 -- Nothing put
 pub put-none : (place : ℕ) (l : Bytes) → Put [] place l l place

@@ -5,6 +5,5 @@ pub mod Entries
 pub mod Targets
 pub mod Underway
 pub mod Checks
-pub mod Counts
 pub mod Results
 pub mod Reading

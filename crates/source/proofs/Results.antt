@@ -19,7 +19,7 @@ use Rattle.source.specs.Lines.{program, machine-of, run-at, outcome-of}
 use Rattle.source.specs.declared.State.{State}
 use Rattle.source.specs.declared.Stop.{Stop}
 use Rattle.source.specs.declared.Ended.the-variants as E
-use Rattle.source.proofs.Counts.{allows, same-allowed}
+use Rattle.theory.proofs.Counts.{allows, same-allowed}
 
 -- A fresh state
 

@@ -2,11 +2,13 @@ pub mod Nesting
 pub mod Sizes
 pub mod Lists
 pub mod Budgets
+pub mod Counts
 pub mod Unlimited
 pub mod GoodMemory
 pub mod GoodSource
 pub mod Table
 pub mod Faults
+pub mod Writes
 pub mod Words
 pub mod Endings
 pub mod Cells

@@ -12,16 +12,11 @@ use Rattle.theory.proofs.Sizes.{spell-entries-append}
 use Rattle.theory.proofs.Words.{total-length}
 use Rattle.translation.specs.Pieces.{text, Spelt}
 use Rattle.program.specs.Puts.{Put}
-use Rattle.program.proofs.Puts.{sets-append, put-then}
+use Rattle.program.proofs.Puts.{put-then}
 
 -- Nothing
 pub put-nothing : (l : List ℕ) (i : ℕ) → Put [] i l l i
 put-nothing l i = record { ended = omega arith; wrote = refl }
-
--- One more store of a run
-pub run-more : (l m : List ℕ) (i n b : ℕ) → m ≡ sets l i (replicate n b) → set m (i + n) b ≡ sets l i (replicate (n + 1) b)
-run-more l m i n b e =
-    rw (e, ← replicate-append-replicate n 1 b, sets-append (replicate n b) (b ∷ []) l i, length-replicate n b)
 
 -- The text of entries
 

@@ -12,27 +12,12 @@ use Rattle.theory.specs.Word.{one, hash, Entry, byte-of, bytes-of, spell-entrie
 use Rattle.theory.specs.TurnedDown.{total, table-fault, read-table, rule-19, lent-after}
 use Rattle.theory.specs.declared.Refusal.{Refusal}
 use Rattle.theory.proofs.Words.{entry, total-length, table-good}
+use Rattle.theory.proofs.Writes.{sets-append}
 use Rattle.word.specs.declared.answers.Read.the-variants as R
 use Rattle.word.specs.declared.answers.Written.the-variants.{Done, Refused}
 use Rattle.word.specs.Answers.{read-answer, write-into, WritesInto}
 use Rattle.word.specs.Tables.{spelt}
 use Rattle.word.proofs.Along.{total-append}
-
--- Bytes after bytes
-
-module _ {A : Type 0} where
-  pub sets-append : (l : List A) (i : ℕ) (u v : List A) → sets (sets l i u) (i + length u) v ≡ sets l i (u ++ v)
-  sets-append l i [] v = let z : i + 0 ≡ i = omega arith in rw z
-  sets-append l i (a ∷ u) v =
-      let z : i + suc (length u) ≡ suc i + length u = omega arith in
-      ap (λ (k : ℕ). sets (sets (set l i a) (suc i) u) k v) z ∙ sets-append (set l i a) (suc i) u v
-
-  -- One of a run
-  pub run-more : (l : List A) (at i : ℕ) (b : A) → set (sets l at (replicate i b)) (at + i) b ≡ sets l at (replicate (i + 1) b)
-  run-more l at i b =
-      let n : length (replicate i b) ≡ i = length-replicate i b in
-      let more : replicate i b ++ replicate 1 b ≡ replicate (i + 1) b = replicate-append-replicate i 1 b in
-      rw (n, more) at (sets-append l at (replicate i b) (replicate 1 b))
 
 -- An entry's bytes
 
@@ -93,7 +78,7 @@ module _ (t : List Entry) (word : List ℕ) where
           spell-one here,
         ) in
         ap (λ (k : ℕ). sets (sets word 0 before) k (entry-bytes here)) place
-        ∙ sets-append word 0 before (entry-bytes here)
+        ∙ sym (sets-append before (entry-bytes here) word 0)
         ∙ ap (λ (l : List ℕ). sets word 0 l) more
 
 pub total-take : (i : ℕ) (t : List Entry) → total (take i t) ≤ total t

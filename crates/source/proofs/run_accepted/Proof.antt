@@ -10,7 +10,7 @@ use lib.ListN.{length}
 use Rattle.source.specs.Lines.{Filled, run-at, outcome-of}
 use Rattle.source.proofs.Program.{few-lines}
 use Rattle.source.proofs.Checks.{good-line}
-use Rattle.source.proofs.Counts.{allows}
+use Rattle.theory.proofs.Counts.{allows}
 use Rattle.source.proofs.Results.{rule-9-back, run-back, taken-few}
 use Rattle.source.proofs.run_accepted.Statement.{statement}
 use Rattle.source.proofs.run_accepted.Tie as tie

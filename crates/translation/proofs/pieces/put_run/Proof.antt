@@ -5,7 +5,7 @@ use native.Mathlib.Omega.{arith}
 use borrow.Author.Needs.{needs}
 use lib.ListN.{length, replicate, length-set, length-replicate}
 use lib.Seq.{sets}
-use Rattle.translation.proofs.Puts.{run-more}
+use Rattle.theory.proofs.Writes.{run-more}
 use Rattle.translation.proofs.pieces.put_run.Statement.{statement}
 use Rattle.translation.proofs.pieces.put_run.Tie as tie
 

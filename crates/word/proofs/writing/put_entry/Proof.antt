@@ -1,11 +1,11 @@
 -- `put_entry` meets its contract: one run stands behind the other.
-use mathlib.Core.Path.{_≡_}
+use mathlib.Core.Path.{_≡_, sym}
 use mathlib.Core.List.{List, _++_}
 use Prim.Native.Nat.{ℕ, _+_}
 use native.Mathlib.Omega.{arith}
 use lib.ListN.{length, replicate, length-replicate}
 use lib.Seq.{sets}
-use Rattle.word.proofs.Spelling.{sets-append}
+use Rattle.theory.proofs.Writes.{sets-append}
 use borrow.Author.Needs.{needs}
 use Rattle.word.proofs.writing.put_entry.Statement.{statement}
 use Rattle.word.proofs.writing.put_entry.Tie as tie
@@ -14,7 +14,7 @@ entry-put : (word middle end : List ℕ) (at kind operand : ℕ) → middle ≡ 
     → end ≡ sets middle (at + operand) (replicate kind 35) → end ≡ sets word at (replicate operand 49 ++ replicate kind 35)
 entry-put word middle end at kind operand e f =
     let n : length {A = ℕ} (replicate operand 49) ≡ operand = length-replicate {A = ℕ} operand 49 in
-    rw (f, e) (rw n at (sets-append word at (replicate operand 49) (replicate kind 35)))
+    rw (f, e) (rw n at (sym (sets-append (replicate operand 49) (replicate kind 35) word at)))
 
 add-middle : tie.Need-add-middle
 add-middle c = search needs

@@ -6,7 +6,7 @@ use native.Mathlib.Omega.{arith}
 use borrow.Author.Needs.{needs}
 use lib.ListN.{length, replicate}
 use lib.Seq.{sets, length-sets}
-use Rattle.word.proofs.Spelling.{run-more}
+use Rattle.theory.proofs.Writes.{run-more}
 use Rattle.word.proofs.writing.put_run.Statement.{statement}
 use Rattle.word.proofs.writing.put_run.Tie as tie
 
@@ -41,7 +41,7 @@ loop-again : tie.Need-loop-again Inv-loop μ-loop
 loop-again c =
     let a : _ = c .before .before .args in
     let l : _ = c .before .loop in
-    (omega arith, rw (l .inv .1) (run-more (a .word .now) (a .at) (l .i) (a .byte)))
+    (omega arith, run-more (a .word .now) _ (a .at) (l .i) (a .byte) (l .inv .1))
 
 same-length : tie.Need-same-length Inv-loop μ-loop
 same-length c =
