@@ -1,10 +1,10 @@
 -- Runs of a source from 51 numbers: those that are a state, and those that are none since there are not 51 of them.
 use mathlib.Core.Path.{_≡_, refl, sym, ap, ap₂, subst, _∙_}
-use mathlib.Core.Bool.{Bool, cond, false, true}
-use mathlib.Core.List.{List, [], _∷_, _++_}
+use mathlib.Core.Bool.{Bool, cond}
+use mathlib.Core.List.{List, [], _∷_}
 use Prim.Native.Nat.{ℕ}
 use native.Mathlib.Omega.{arith}
-use lib.ListN.{length, take, drop, replicate, take-append-drop, length-drop}
+use lib.ListN.{length, drop, take-append-drop, length-drop}
 use lib.Seq.{take-at, drop-at, take-all}
 use borrow.Author.Tests.{eq-eqb, ne-eqb}
 use Rattle.theory.specs.ProgramText.{Command}

@@ -10,9 +10,8 @@ use lib.Dec.{eqb, ltb}
 use lib.ListN.{length, take, drop, getD, set, length-set, length-append, length-drop}
 use lib.Seq.{getD-set-same, getD-set-other, set-getD, getD-take, getD-drop, length-take-le, take-length, ext-getD}
 use Rattle.theory.specs.Basics.{put}
-use Rattle.theory.specs.Text.{Bytes}
 use Rattle.theory.specs.Word.{Symbol, byte-of}
-use Rattle.theory.specs.Machines.{laid, lengths-of, store-of}
+use Rattle.theory.specs.Machines.{laid, lengths-of}
 use Rattle.theory.proofs.Cells.{put-ind, put-same, put-other}
 use Rattle.theory.proofs.GoodMemory.{length-laid, length-store, getD-cells}
 use Rattle.machine.specs.Held.{Sized, Held}

@@ -5,7 +5,7 @@ use mathlib.Core.Option.{Option, none, some}
 use mathlib.Core.List.{List, [], _∷_, _++_, map}
 use Prim.Native.Nat.{ℕ, zero, suc}
 use Prim.Native.String.{String}
-use lib.ListN.{length, getD, replicate}
+use lib.ListN.{getD, replicate}
 use Rattle.theory.specs.Basics.{or-else}
 use Rattle.theory.specs.Text.{Bytes, bytes, LF}
 use Rattle.theory.specs.ProgramText.{Command, listed, indices}
@@ -19,7 +19,7 @@ use Rattle.theory.specs.TurnedDown.{text-fault, program-fault, word-fault, tabl
 use Rattle.theory.specs.RunTool.{report}
 use Rattle.theory.specs.declared.Refusal.{Refusal}
 use Rattle.theory.specs.declared.End.{End}
-use Rattle.theory.specs.declared.End.the-variants.{Halted, Strayed, Spent, Full}
+use Rattle.theory.specs.declared.End.the-variants.{Halted, Spent, Full}
 
 -- Examples of what is turned down, and with what: a text, a list, a word, a table, a sheet for a program of so many variables, a word on a machine of
 -- so many registers, a program's source state, a machine's memory, a lent output for a program's word, with what it then holds. The indices that each line

@@ -1,12 +1,12 @@
 -- Texts put one after another are their join put at once, and the bounds on what is put.
 use mathlib.Core.Path.{_≡_, refl, sym, ap, _∙_}
 use mathlib.Core.List.{[], _∷_, _++_, append-assoc}
-use Prim.Native.Nat.{ℕ, suc, _+_, _<_, _≤_}
+use Prim.Native.Nat.{ℕ, _+_, _<_, _≤_}
 use native.Mathlib.Nat.{add-zero}
 use native.Mathlib.Numerals.{add-one}
 use native.Mathlib.Omega.{arith}
-use lib.ListN.{length, set, take, getD, length-append}
-use lib.Seq.{sets, length-sets, take-suc}
+use lib.ListN.{length, take, getD, length-append}
+use lib.Seq.{length-sets, take-suc}
 use Rattle.theory.specs.Text.{Bytes, bytes, blank, LF}
 use Rattle.theory.specs.declared.Refusal.{Refusal}
 use Rattle.theory.proofs.Writes.{sets-append}

@@ -22,7 +22,7 @@ use Rattle.theory.specs.Word as W
 use Rattle.theory.specs.Word.{Instruction, append, forward, backward, cases}
 use Rattle.theory.specs.Claims.{SourceUnlimited, WordUnlimited}
 use Rattle.theory.specs.declared.End.{End}
-use Rattle.theory.specs.declared.End.the-variants.{Halted, Strayed, Spent, Full}
+use Rattle.theory.specs.declared.End.the-variants.{Halted, Spent, Full}
 use Rattle.theory.proofs.Budgets.{run-induction, run-step, advanced}
 use Rattle.theory.proofs.Cells.{at-within}
 

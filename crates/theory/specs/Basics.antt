@@ -1,7 +1,7 @@
 -- What several of the other files use: what stands at a place of a list, cells, tests over lists, the first of several answers.
 use mathlib.Core.Bool.{Bool, true, false, cond, _&&_}
 use mathlib.Core.Option.{Option, none, some}
-use mathlib.Core.List.{List, [], _∷_, _++_}
+use mathlib.Core.List.{List, [], _∷_}
 use Prim.Native.Nat.{ℕ, zero, suc}
 use lib.ListN.{getElem?}
 use lib.Dec.{eqb}

@@ -3,7 +3,7 @@ use mathlib.Core.Path.{_≡_}
 use mathlib.Core.List.{List, [], _∷_, map}
 use Prim.Native.Nat.{ℕ, zero, suc}
 use Prim.Native.String.{String}
-use lib.IntN.{ℤ, pos, negsuc}
+use lib.IntN.{ℤ, pos}
 use lib.ListN.{length, getD}
 use Rattle.theory.specs.Basics.{cells}
 use Rattle.theory.specs.Text.{Bytes, bytes}
@@ -16,7 +16,7 @@ use Rattle.theory.specs.Translation.{word-of, word-text}
 use Rattle.theory.specs.Machines.{fresh-source, fresh-word}
 use Rattle.theory.specs.TurnedDown.{Answer, done, refused, read-text, read-word, instructions}
 use Rattle.theory.specs.declared.End.{End}
-use Rattle.theory.specs.declared.End.the-variants.{Halted, Strayed, Spent, Full}
+use Rattle.theory.specs.declared.End.the-variants.{Halted, Strayed, Full}
 
 -- What a run of a word shows: its end, its steps, its place and the first so many registers
 pub record Shown : Type 0 where

@@ -1,22 +1,21 @@
 -- The claims about these definitions, stated. Each is a type of which proofs/ has one element; docs/PROMISES.md names it.
 use mathlib.Core.Path.{_≡_}
 use mathlib.Core.Logic.{_≢_, _↔_}
-use mathlib.Core.Bool.{Bool, true, false}
-use mathlib.Core.Option.{Option, none, some}
-use mathlib.Core.List.{List, [], _∷_, _++_, map}
-use Prim.Native.Nat.{ℕ, zero, suc, _+_, _<_, _≤_}
+use mathlib.Core.Bool.{true}
+use mathlib.Core.Option.{none, some}
+use mathlib.Core.List.{List, [], _∷_, map}
+use Prim.Native.Nat.{ℕ, suc, _+_, _<_, _≤_}
 use lib.ListN.{length}
 use Rattle.theory.specs.Limits
-use Rattle.theory.specs.Basics.{all}
 use Rattle.theory.specs.Text.{Bytes}
 use Rattle.theory.specs.ProgramText.{Command, variables, Block, lines, text-of, list-of}
-use Rattle.theory.specs.Runs.{Machine, Outcome, run, Goes, each, unlimited, within}
+use Rattle.theory.specs.Runs.{Machine, run, Goes, each, unlimited, within}
 use Rattle.theory.specs.Source as S
 use Rattle.theory.specs.Word as W
-use Rattle.theory.specs.Word.{Symbol, Instruction, Entry, operand, kind, table-of, spell, spell-entries, bytes-of}
+use Rattle.theory.specs.Word.{Instruction, Entry, operand, kind, table-of, spell, spell-entries, bytes-of}
 use Rattle.theory.specs.Translation.{word, word-of, word-text, charge}
 use Rattle.theory.specs.Machines.{fresh-source, fresh-word, holding, SourceState, run-source, Memory, Position, run-word, is-memory, contents, refilled}
-use Rattle.theory.specs.TurnedDown.{Answer, done, program-fault, read-text, read-list, read-word, read-word-for, read-table, table-fault, instructions, is-source, names-register}
+use Rattle.theory.specs.TurnedDown.{done, program-fault, read-text, read-list, read-word, read-word-for, read-table, table-fault, instructions, is-source, names-register}
 use Rattle.theory.specs.RunTool.{tool-source, tool-word}
 use Rattle.theory.specs.declared.End.{End}
 use Rattle.theory.specs.declared.End.the-variants.{Halted, Strayed, Spent, Full}

@@ -1,11 +1,11 @@
 -- Document 01, "The program text": commands, their spellings, the list of three numbers a command, K, and blocks.
-use mathlib.Core.Bool.{Bool, true, false, cond}
+use mathlib.Core.Bool.{cond}
 use mathlib.Core.Option.{Option, none, some, Option·map}
 use mathlib.Core.List.{List, [], _∷_, _++_}
-use Prim.Native.Nat.{ℕ, zero, suc, max}
+use Prim.Native.Nat.{ℕ, suc, max}
 use lib.Dec.{eqb}
 use Rattle.theory.specs.Basics.{given, or-else, and-then}
-use Rattle.theory.specs.Text.{Bytes, bytes, LF, Found, after, same, name, name-of}
+use Rattle.theory.specs.Text.{Bytes, bytes, LF, after, same, name, name-of}
 
 -- Commands
 

@@ -1,10 +1,10 @@
 -- Document 01, "Run sheet and run tool": the lines of a run sheet. What the run tool prints is in RunTool, after the rules.
 use mathlib.Core.Bool.{Bool, true, false, cond, not, _&&_, _||_}
 use mathlib.Core.Option.{Option, none, some}
-use mathlib.Core.List.{List, [], _∷_, _++_, map}
-use Prim.Native.Nat.{ℕ, zero, suc}
-use lib.Dec.{eqb, ltb}
-use Rattle.theory.specs.Basics.{given, and-then, every, all}
+use mathlib.Core.List.{List, [], _∷_, map}
+use Prim.Native.Nat.{ℕ}
+use lib.Dec.{eqb}
+use Rattle.theory.specs.Basics.{and-then, every}
 use Rattle.theory.specs.Text.{Bytes, Found, numeral, name, fields}
 
 -- What is exactly one thing, with nothing after it

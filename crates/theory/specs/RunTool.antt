@@ -1,7 +1,7 @@
 -- Document 01, "Run sheet and run tool": the text that the run tool prints, whole, from the program's text and the sheet's.
 use mathlib.Core.Option.{Option, none, some}
-use mathlib.Core.List.{List, [], _∷_, _++_, map}
-use Prim.Native.Nat.{ℕ, zero, suc}
+use mathlib.Core.List.{List, [], _∷_, _++_}
+use Prim.Native.Nat.{ℕ}
 use lib.ListN.{length}
 use lib.Dec.{leb}
 use Rattle.theory.specs.Limits

@@ -1,12 +1,12 @@
 -- Document 01, "Machines of the set": what both machines share. Room, a step machine, a run with a budget, and unlimited runs with their cost.
 use mathlib.Core.Path.{_≡_}
-use mathlib.Core.Bool.{Bool, true, false, cond}
+use mathlib.Core.Bool.{Bool, true, false}
 use mathlib.Core.Option.{Option, none, some}
 use Prim.Native.Nat.{ℕ, zero, suc, _+_}
 use lib.Dec.{leb, ltb}
 use Rattle.theory.specs.Limits.{last-count}
 use Rattle.theory.specs.declared.End.{End}
-use Rattle.theory.specs.declared.End.the-variants.{Halted, Strayed, Spent, Full}
+use Rattle.theory.specs.declared.End.the-variants.{Spent, Full}
 
 -- `room r n`: register r may hold n symbols. A variable has the room of its register
 abbrev pub Room : Type 0

@@ -1,13 +1,12 @@
 -- Document 01, "The program text", the source steps (the meaning of source document 001). Lines count from 1.
-use mathlib.Core.Bool.{Bool, true, false, cond}
 use mathlib.Core.Option.{Option, none, some}
-use mathlib.Core.List.{List, [], _∷_, _++_}
+use mathlib.Core.List.{List, [], _∷_}
 use Prim.Native.Nat.{ℕ, zero, suc, _+_, _-_, pred}
 use lib.ListN.{length, take, drop}
 use lib.Dec.{eqb}
 use Rattle.theory.specs.Basics.{at, put, given}
 use Rattle.theory.specs.Runs.{Room, Machine}
-use Rattle.theory.specs.ProgramText.{Plain, clear, increment, copy, Kind, loop, while, Command, plain, opens, closes}
+use Rattle.theory.specs.ProgramText.{clear, increment, copy, Kind, loop, while, Command, plain, opens, closes}
 use Rattle.theory.specs.declared.End.the-variants.{Halted}
 
 -- Partner lines

@@ -4,8 +4,7 @@ use mathlib.Core.List.{List, [], _∷_, _++_, map, append-nil}
 use mathlib.Core.List as L
 use Prim.Native.Nat.{ℕ, zero, suc, _+_}
 use native.Mathlib.Omega.{arith}
-use lib.ListN.{length, replicate, set, length-map, length-replicate, replicate-append-replicate}
-use lib.Seq.{sets}
+use lib.ListN.{length, replicate, length-map}
 use Rattle.theory.specs.Word.{byte-of, one, hash, Entry, spell-entries}
 use Rattle.theory.specs.TurnedDown.{total}
 use Rattle.theory.proofs.Sizes.{spell-entries-append}

@@ -1,5 +1,4 @@
 // The instructions of a plain line and of the two ends of a pair, each written at a place of the output.
-ghost use mathlib.Core.Path.{_≡_};
 ghost use mathlib.Core.List.{[], _∷_};
 ghost use Prim.Native.Nat.{_+_, _≤_};
 ghost use lib.ListN.{length, replicate};

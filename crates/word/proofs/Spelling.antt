@@ -5,7 +5,7 @@ use mathlib.Core.List.{List, [], _∷_, _++_, map, append-assoc, append-nil, map
 use Prim.Native.Nat.{ℕ, zero, suc, _+_, _≤_, _<_, min}
 use native.Mathlib.Numerals.{add-one}
 use native.Mathlib.Omega.{arith}
-use lib.ListN.{length, take, drop, getD, set, replicate, length-map, length-replicate, take-append-drop, replicate-append-replicate}
+use lib.ListN.{length, take, drop, getD, replicate, length-map, take-append-drop}
 use lib.Seq.{sets, length-sets, sets-eq, take-suc, take-all}
 use borrow.Author.Tests.{le-leb, lt-leb}
 use Rattle.theory.specs.Word.{one, hash, Entry, byte-of, bytes-of, spell-entries}

@@ -4,7 +4,7 @@ use mathlib.Core.Path.{_≡_, sym, ap, ap₂, _∙_}
 use mathlib.Core.List.{List, _∷_, _++_}
 use Prim.Native.Nat.{ℕ}
 use native.Mathlib.Omega.{arith}
-use lib.ListN.{length, set, length-map, length-set}
+use lib.ListN.{length, length-map, length-set}
 use borrow.Rule.Slice.PartMut.{putMid}
 use Rattle.host.specs.States.{numbers-of}
 use Rattle.host.proofs.Numbers.{part-length, first-size, same-size, all-written}

@@ -1,8 +1,7 @@
 -- `perform` meets its contract: in each arm the kind decides the instruction, and what the called function did is what the definition does.
 use mathlib.Core.Path.{_≡_, refl, ap, _∙_}
-use Prim.Native.Nat.{suc, _-_, _<_}
+use Prim.Native.Nat.{suc, _-_}
 use native.Mathlib.Omega.{arith}
-use lib.ListN.{length}
 use Rattle.theory.specs.Word.{one, hash}
 use Rattle.theory.specs.TurnedDown.{names-register}
 use Rattle.machine.proofs.Steps.{is-append-one, is-append-hash, is-forward, is-backward, is-cases}

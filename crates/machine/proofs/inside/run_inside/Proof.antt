@@ -1,8 +1,8 @@
 -- `run_inside` meets its contract: the run on rings that all begin at 0, and the rings put in order.
-use mathlib.Core.Path.{_≡_, refl, _∙_}
-use Prim.Native.Nat.{ℕ, zero, suc, _≤_}
+use mathlib.Core.Path.{_≡_, refl}
+use Prim.Native.Nat.{ℕ, zero, suc}
 use native.Mathlib.Omega.{arith}
-use lib.ListN.{length, getD, replicate, length-replicate}
+use lib.ListN.{getD, replicate}
 use Rattle.machine.proofs.Rings.{ring-held}
 use Rattle.machine.proofs.Running.{memory-limits}
 use borrow.Author.Needs.{needs}

@@ -1,5 +1,4 @@
 -- `put_in_order` meets its contract: the first `i` registers are in order.
-use mathlib.Core.Path.{_≡_}
 use Prim.Native.Nat.{_+_, _-_, _*_, _≤_}
 use native.Mathlib.Omega.{arith}
 use lib.ListN.{length}

@@ -1,7 +1,6 @@
 -- `wrapped` meets its contract, by its test.
 use mathlib.Core.Path.{sym}
 use Rattle.machine.proofs.Rings.{wrapped-low, wrapped-high}
-use borrow.Author.Needs.{needs}
 use Rattle.machine.proofs.store.wrapped.Statement.{statement}
 use Rattle.machine.proofs.store.wrapped.Tie as tie
 

@@ -1,8 +1,7 @@
 -- `put_bytes` meets its contract. The loop's invariant: the byte stands from the first place to `i`.
-use mathlib.Core.Path.{_≡_, refl}
+use mathlib.Core.Path.{_≡_}
 use Prim.Native.Nat.{_≤_, _-_}
 use native.Mathlib.Omega.{arith}
-use lib.ListN.{length}
 use Rattle.report.specs.Fresh.{Spread}
 use Rattle.report.proofs.Places.{spread-none, spread-next}
 use borrow.Author.Needs.{needs}
