@@ -12,9 +12,8 @@ use Rattle.theory.specs.Text.{decimal}
 use Rattle.theory.specs.RunTool.{end-name}
 use Rattle.theory.specs.declared.End.{End}
 use Rattle.theory.specs.declared.End.the-variants.{Halted, Strayed, Spent, Full}
-use Rattle.theory.specs.declared.Refusal.{Refusal}
 use Rattle.report.specs.declared.writing.Row.{Row}
-use Rattle.report.specs.Puts.{row-line, refusal-line, Within}
+use Rattle.report.specs.Puts.{row-line, Within}
 use Rattle.theory.proofs.Numerals.{decimal-small, decimal-large}
 
 pub decimal-short : (k n : ℕ) → n < 10 ^ suc k → length (decimal n) ≤ suc k
@@ -44,8 +43,3 @@ row-short r h =
     let word : length (decimal (r .word .steps)) ≤ 7 = decimal-short 6 (r .word .steps) (omega (arith, h .word)) in
     let first : length (decimal (r .first)) ≤ 4 = decimal-short 3 (r .first) (omega (arith, h .first)) in
     simp length-append (omega (arith, end-short (r .source .end), end-short (r .word .end)))
-
-pub refusal-short : (r : Refusal) → r .number < 2 ^ 64 → r .place < 2 ^ 64 → length (refusal-line r) ≤ 50
-unfolding refusal-line
-refusal-short r number place =
-    simp length-append (omega (arith, decimal-fits (r .number) number, decimal-fits (r .place) place))

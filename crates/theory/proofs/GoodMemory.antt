@@ -287,14 +287,6 @@ module _ (m : Memory) (g : Good m) where
       ext-getD 0 (lengths-of (m .registers) (contents m)) (m .lengths) (count ∙ sym (g .lengths)) λ i l.
       getD-cells (m .registers) (λ j. length (contents m (suc j))) 0 i (rw (← count) l) ∙ length-contents i (rw (← count) l)
 
-  pub refilled-contents : refilled m (contents m) ≡ m
-  refilled-contents = λ i. record {
-    registers = m .registers;
-    capacity = m .capacity;
-    store = contents-stored i;
-    lengths = contents-counted i;
-  }
-
 -- Runs of words
 
 each-at : {A : Type 0} (P : A → Type 0) (l : List A) (n : ℕ) (a : A) → EachOf P l → getElem? l n ≡ some a → P a

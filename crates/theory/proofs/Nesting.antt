@@ -227,11 +227,6 @@ blocks-lines (pair k i body b) p =
     ∙ (blocks-lines body (closes k i ∷ (lines b ++ p))
     ∙ ap₂ {C = Blocks} (λ x r. record { first = x; later = r .first ∷ r .later }) (then-end body) (blocks-lines b p)))
 
-pub block-of-lines : (b : Block) → block-of (lines b) ≡ b
-unfolding block-of blocks
-block-of-lines b =
-    ap (λ l. blocks l .first) (sym (append-nil (lines b))) ∙ (ap (λ r. r .first) (blocks-lines b []) ∙ then-end b)
-
 -- At most 16 pairs within pairs
 
 abbrev pub nest : Block → ℕ

@@ -2,7 +2,7 @@
 use mathlib.Core.Path.{_≡_, refl, sym, ap, ap₂, _∙_, subst}
 use mathlib.Core.Logic.{_≢_}
 use mathlib.Core.Bool.{Bool, true, false}
-use mathlib.Core.Option.{none, some, Option·some-injective, Option·none-ne-some}
+use mathlib.Core.Option.{some, Option·some-injective, Option·none-ne-some}
 use mathlib.Core.List.{List, [], _∷_, _++_, append-assoc, append-nil}
 use Prim.Native.Nat.{ℕ, zero, suc, _+_, _-_, _*_, _/_, _%_, _≤_, _<_}
 use native.Mathlib.Nat.{div-add-mod', div-lt-self, div-lt-iff-lt-mul, le-div-iff-mul-le, div-eq-of-lt, mul-add-div-right}
@@ -228,11 +228,6 @@ decimal-of-value (b ∷ c ∷ d) a p =
     decimal-after (0 * 10 + (b - 48)) (c ∷ d) (omega arith) (and-second (is-digit b) _ a)
     ∙ ap {B = Bytes} (λ l. l ++ (c ∷ d)) (decimal-digit b digit)
 
--- So two numerals of one value are the same bytes
-pub same-digits : (d e : Bytes) → AllDigits d → proper d ≡ true → AllDigits e → proper e ≡ true
-    → value-after 0 d ≡ value-after 0 e → d ≡ e
-same-digits d e a p b q v = sym (decimal-of-value d a p) ∙ ap decimal v ∙ decimal-of-value e b q
-
 -- Numerals and names, with other bytes behind them
 
 abbrev pub found : ℕ → Bytes → Found ℕ
@@ -242,10 +237,6 @@ found n r = record { value = n; rest = r }
 pub numeral-of-digits : (d r : Bytes) → AllDigits d → proper d ≡ true → NoDigit r → numeral (d ++ r) ≡ some (found (value-after 0 d) r)
 unfolding numeral
 numeral-of-digits d r a p n = rw (digits-append d r a n, p)
-
-pub numeral-improper : (d r : Bytes) → AllDigits d → proper d ≡ false → NoDigit r → numeral (d ++ r) ≡ none
-unfolding numeral
-numeral-improper d r a p n = rw (digits-append d r a n, p)
 
 pub numeral-decimal : (n : ℕ) (r : Bytes) → NoDigit r → numeral (decimal n ++ r) ≡ some (found n r)
 numeral-decimal n r h = rw (numeral-of-digits (decimal n) r (decimal-digits n) (decimal-proper n) h, decimal-value n)

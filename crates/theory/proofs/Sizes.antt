@@ -104,33 +104,7 @@ length-before K d while i m = refl
 abbrev pub ends-weight : ℕ → ℕ → Kind → ℕ → ℕ → ℕ
 ends-weight K d k i m = weight (before-body K d k i m) + (operand (after-body k m) + kind (after-body k m))
 
-pub ends-weight-loop : (K d i m : ℕ) → ends-weight K d loop i m ≡ 2 * register i + 2 * counter K d + 2 * scratch K + 2 * m + 57
-ends-weight-loop K d i m = omega arith
-
-pub ends-weight-while : (K d i m : ℕ) → ends-weight K d while i m ≡ 2 * register i + 2 * m + 19
-ends-weight-while K d i m = omega arith
-
 module _ (K d : ℕ) where
-  pub spell-line : (c : Plain) (b : Block) → spell (code K d (line c b)) ≡ spell (plain-code K c) ++ spell (code K d b)
-  unfolding code
-  spell-line c b = spell-append (plain-code K c) (code K d b)
-
-  pub spell-pair : (k : Kind) (i : ℕ) (body b : Block)
-      → let inner = code K (deeper k d) body in
-      let m = length inner in
-      spell (code K d (pair k i body b))
-      ≡ spell (before-body K d k i m) ++ (spell inner ++ (spell (after-body k m ∷ []) ++ spell (code K d b)))
-  unfolding code
-  spell-pair k i body b =
-      let inner : List Instruction = code K (deeper k d) body in
-      let m : ℕ = length inner in
-      let last : List Instruction = after-body k m ∷ [] in
-      rw (
-        spell-append (before-body K d k i m) (inner ++ (last ++ code K d b)),
-        spell-append inner (last ++ code K d b),
-        spell-append last (code K d b),
-      )
-
   pub length-line : (c : Plain) (b : Block) → length (code K d (line c b)) ≡ length (plain-code K c) + length (code K d b)
   unfolding code
   length-line c b = length-append (plain-code K c) (code K d b)
