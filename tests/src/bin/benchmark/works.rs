@@ -7,7 +7,7 @@ use std::process::{Command as Process, Stdio};
 use std::{env, fs};
 use twin::library;
 use twin::machine::Machine;
-use twin::program::{self, read, Command, Kind};
+use twin::program::{self, read, read_list, Command, Kind};
 use twin::source::{check, run, State};
 use twin::translation::translate;
 use twin::word::{self, spell, Instruction};
@@ -21,6 +21,10 @@ pub fn nested(depth: usize, copies: usize) -> Vec<u8> {
     commands.extend(vec![Command::Copy { to: 31, from: 30 }; copies]);
     commands.extend(vec![Command::Close(Kind::Loop, 31); depth]);
     program::write(&commands)
+}
+
+fn list_of(text: &[u8]) -> Vec<u8> {
+    program::list(&read(text).expect("an accepted program"))
 }
 
 pub fn symbols(text: &[u8]) -> usize {
@@ -59,6 +63,36 @@ pub fn reading(name: &str, size: usize, text: &[u8]) -> Row {
     )
 }
 
+pub fn writing(name: &str, size: usize, text: &[u8]) -> Row {
+    let list = list_of(text);
+    let mut written = vec![0; 16_384];
+    row(
+        name,
+        size,
+        &mut || {
+            black_box(library::write_program(black_box(&list), &mut written));
+        },
+        &mut || {
+            black_box(read_list(black_box(&list)).map(|c| program::write(&c))).ok();
+        },
+    )
+}
+
+pub fn translating_list(name: &str, size: usize, text: &[u8]) -> Row {
+    let list = list_of(text);
+    let mut word = vec![0; 400_000];
+    row(
+        name,
+        size,
+        &mut || {
+            black_box(library::translate_list(black_box(&list), &mut word));
+        },
+        &mut || {
+            black_box(read_list(black_box(&list)).map(|c| spell(&translate(&c)))).ok();
+        },
+    )
+}
+
 pub fn translating(name: &str, size: usize, text: &[u8]) -> Row {
     let mut word = vec![0; 400_000];
     row(
@@ -89,6 +123,44 @@ pub fn running_source(name: &str, text: &[u8], values: &[u32]) -> Row {
             let commands = read(black_box(text)).expect("an accepted program");
             check(&commands, &state).expect("a good state");
             black_box(run(&commands, &mut state, 100_000));
+        },
+    )
+}
+
+pub fn running_list(name: &str, text: &[u8], values: &[u32]) -> Row {
+    let list = list_of(text);
+    let mut start = [0; 32];
+    start[..values.len()].copy_from_slice(values);
+    let fresh = State::fresh(1024, start);
+    row(
+        name,
+        0,
+        &mut || {
+            let mut state = fresh.numbers();
+            black_box(library::run_source_list(black_box(&list), &mut state, 100_000));
+        },
+        &mut || {
+            let mut state = fresh.clone();
+            let commands = read_list(black_box(&list)).expect("an accepted program");
+            check(&commands, &state).expect("a good state");
+            black_box(run(&commands, &mut state, 100_000));
+        },
+    )
+}
+
+pub fn writing_word(name: &str, size: usize, text: &[u8]) -> Row {
+    let table = word::read(text).expect("a word");
+    let kinds: Vec<_> = table.iter().map(|i| i.kind).collect();
+    let operands: Vec<_> = table.iter().map(|i| i.operand).collect();
+    let mut written = vec![0; 600_000];
+    row(
+        name,
+        size,
+        &mut || {
+            black_box(library::write_word(black_box(&kinds), black_box(&operands), &mut written));
+        },
+        &mut || {
+            black_box(word::check_table(black_box(&table)).map(|()| spell(&table))).ok();
         },
     )
 }
