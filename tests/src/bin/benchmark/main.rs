@@ -34,12 +34,12 @@ fn speed() -> Vec<Row> {
         reading("read 6 lines", 6, MULTIPLY),
         reading("read 512 lines", 512, &largest),
         writing("write 512 lines", 512, &largest),
-        translating("translate 6 lines", 6, MULTIPLY),
-        translating("translate the largest, 311,044 symbols", 512, &largest),
-        translating_list("translate the largest, from its list", 512, &largest),
-        running_source("source run, 1,862 steps", MULTIPLY, &[0, 30, 30]),
-        running_source("source run, 100,000 steps", BUSY, &[0, 100]),
-        running_list("source run, 100,000 steps, from a list", BUSY, &[0, 100]),
+        translating("translate 6 lines", 6, &as_text(MULTIPLY)),
+        translating("translate the largest, 311,044 symbols", 512, &as_text(&largest)),
+        translating("translate the largest, from its list", 512, &as_list(&largest)),
+        running_source("source run, 1,862 steps", &as_text(MULTIPLY), &[0, 30, 30]),
+        running_source("source run, 100,000 steps", &as_text(BUSY), &[0, 100]),
+        running_source("source run, 100,000 steps, from a list", &as_list(BUSY), &[0, 100]),
         reading_word("read a word of 100,000 symbols", 0, &cases_word(100_000)),
         writing_word("write a word of 100,000 symbols", 0, &cases_word(100_000)),
         running_word("word run, 100,000 steps, 1,000 symbols", 0, &moving, &first(1000)),
@@ -63,11 +63,11 @@ fn growths() -> Vec<Growth> {
     let depths = [1, 2, 4, 8, 16];
     let sizes = [1_000, 3_000, 10_000, 30_000, 100_000, 300_000];
     let deep = |depth: usize| nested(depth, 512 - 2 * depth);
-    let translate = |text: Vec<u8>| translating("", symbols(&text), &text);
+    let translate = |text: Vec<u8>| translating("", symbols(&text), &as_text(&text));
     let machine = Machine::fresh(64, 16, &[]);
     vec![
         growth("read plain lines", "lines", "line", lines, &|n| reading("", n, &nested(0, n))),
-        growth("translate plain lines", "lines", "line", lines, &|n| translating("", n, &nested(0, n))),
+        growth("translate plain lines", "lines", "line", lines, &|n| translating("", n, &as_text(&nested(0, n)))),
         growth("read 512 lines", "loops", "line", depths, &|depth| reading("", 512, &deep(depth))),
         growth("translate 512 lines", "loops", "symbol", depths, &|depth| translate(deep(depth))),
         growth("translate in 16 loops", "symbols", "symbol", [10_000, 20_000, 50_000, 100_000, 200_000, 300_000], &|n| translate(in_16_loops(n))),

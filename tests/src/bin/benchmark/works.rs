@@ -5,6 +5,7 @@ use std::hint::black_box;
 use std::path::Path;
 use std::process::{Command as Process, Stdio};
 use std::{env, fs};
+use twin::cases::Program;
 use twin::library;
 use twin::machine::Machine;
 use twin::program::{self, read, read_list, Command, Kind};
@@ -23,8 +24,13 @@ pub fn nested(depth: usize, copies: usize) -> Vec<u8> {
     program::write(&commands)
 }
 
-fn list_of(text: &[u8]) -> Vec<u8> {
-    program::list(&read(text).expect("an accepted program"))
+/// The program of a text, and the same as its list.
+pub fn as_text(text: &[u8]) -> Program {
+    Program::Text(text.into())
+}
+
+pub fn as_list(text: &[u8]) -> Program {
+    Program::List(program::list(&read(text).expect("an accepted program")))
 }
 
 pub fn symbols(text: &[u8]) -> usize {
@@ -64,7 +70,7 @@ pub fn reading(name: &str, size: usize, text: &[u8]) -> Row {
 }
 
 pub fn writing(name: &str, size: usize, text: &[u8]) -> Row {
-    let list = list_of(text);
+    let list = program::list(&read(text).expect("an accepted program"));
     let mut written = vec![0; 16_384];
     row(
         name,
@@ -78,36 +84,24 @@ pub fn writing(name: &str, size: usize, text: &[u8]) -> Row {
     )
 }
 
-pub fn translating_list(name: &str, size: usize, text: &[u8]) -> Row {
-    let list = list_of(text);
+pub fn translating(name: &str, size: usize, program: &Program) -> Row {
     let mut word = vec![0; 400_000];
     row(
         name,
         size,
         &mut || {
-            black_box(library::translate_list(black_box(&list), &mut word));
+            black_box(match black_box(program) {
+                Program::Text(text) => library::translate(text, &mut word),
+                Program::List(list) => library::translate_list(list, &mut word),
+            });
         },
         &mut || {
-            black_box(read_list(black_box(&list)).map(|c| spell(&translate(&c)))).ok();
+            black_box(black_box(program).read().map(|c| spell(&translate(&c)))).ok();
         },
     )
 }
 
-pub fn translating(name: &str, size: usize, text: &[u8]) -> Row {
-    let mut word = vec![0; 400_000];
-    row(
-        name,
-        size,
-        &mut || {
-            black_box(library::translate(black_box(text), &mut word));
-        },
-        &mut || {
-            black_box(read(black_box(text)).map(|c| spell(&translate(&c)))).ok();
-        },
-    )
-}
-
-pub fn running_source(name: &str, text: &[u8], values: &[u32]) -> Row {
+pub fn running_source(name: &str, program: &Program, values: &[u32]) -> Row {
     let mut start = [0; 32];
     start[..values.len()].copy_from_slice(values);
     let fresh = State::fresh(1024, start);
@@ -116,32 +110,14 @@ pub fn running_source(name: &str, text: &[u8], values: &[u32]) -> Row {
         0,
         &mut || {
             let mut state = fresh.numbers();
-            black_box(library::run_source(black_box(text), &mut state, 100_000));
+            black_box(match black_box(program) {
+                Program::Text(text) => library::run_source(text, &mut state, 100_000),
+                Program::List(list) => library::run_source_list(list, &mut state, 100_000),
+            });
         },
         &mut || {
             let mut state = fresh.clone();
-            let commands = read(black_box(text)).expect("an accepted program");
-            check(&commands, &state).expect("a good state");
-            black_box(run(&commands, &mut state, 100_000));
-        },
-    )
-}
-
-pub fn running_list(name: &str, text: &[u8], values: &[u32]) -> Row {
-    let list = list_of(text);
-    let mut start = [0; 32];
-    start[..values.len()].copy_from_slice(values);
-    let fresh = State::fresh(1024, start);
-    row(
-        name,
-        0,
-        &mut || {
-            let mut state = fresh.numbers();
-            black_box(library::run_source_list(black_box(&list), &mut state, 100_000));
-        },
-        &mut || {
-            let mut state = fresh.clone();
-            let commands = read_list(black_box(&list)).expect("an accepted program");
+            let commands = black_box(program).read().expect("an accepted program");
             check(&commands, &state).expect("a good state");
             black_box(run(&commands, &mut state, 100_000));
         },
