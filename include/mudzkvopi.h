@@ -1,13 +1,16 @@
 /*
  * mudzkvopi.h: LOOP/WHILE programs, their 1# words, and runs of both. Version 1.
  *
- * Link with libhost.a (x86-64, C99 or C++). Every call checks what it is given, ends, and is proved to answer by the definitions in
- * crates/theory/specs/. There is no state between calls, no allocation, no global and no file: calls may run in any threads at the same time, as long as
- * no two of them are lent the same memory. No call needs more than MUDZKVOPI_STACK_BYTES of stack.
+ * Link with libhost.a (x86-64, C99 or C++). Every call checks what it is given, ends, and is proved
+ * to answer by the definitions in crates/theory/specs/. There is no state between calls, no
+ * allocation, no global and no file: calls may run in any threads at the same time, as long as no
+ * two of them are lent the same memory. No call needs more than MUDZKVOPI_STACK_BYTES of stack.
  *
- * Memory that you lend. A slice is a pointer and the number of its elements (not bytes). A pointer is never NULL, also where its number is 0, and is
- * aligned for its type. A slice that a call may write (one without `const`) overlaps no other argument of the call. On a refusal nothing that was lent has
- * changed; else the result stands at the start of its slice, and the elements after the result are as they were.
+ * Memory that you lend. A slice is a pointer and the number of its elements (not bytes). A pointer
+ * is never NULL, also where its number is 0, and is aligned for its type. A slice that a call may
+ * write (one without `const`) overlaps no other argument of the call. On a refusal nothing that was
+ * lent has changed; else the result stands at the start of its slice, and the elements after the
+ * result are as they were.
  */
 #ifndef MUDZKVOPI_H
 #define MUDZKVOPI_H
@@ -20,14 +23,18 @@ extern "C" {
 #endif
 
 #define MUDZKVOPI_VERSION 1
-#define MUDZKVOPI_STACK_BYTES 65536
+#define MUDZKVOPI_STACK_BYTES 65536      /* for any call */
+#define MUDZKVOPI_TABLE_STACK_BYTES 4096 /* for mudzkvopi_run_table, which copies nothing */
 
 /*
- * Results. A call answers with one number: bits 56 to 63 say what came of it, and the other bits go by that.
+ * Results. A call answers with one number: bits 56 to 63 say what came of it, and the other bits go
+ * by that.
  *
- *   MUDZKVOPI_DONE      bits 32 to 47: MUDZKVOPI_HIGH, bits 0 to 31: MUDZKVOPI_LOW, two counts that each call below names
- *   HALTED .. FULL      a run ended so; bits 0 to 31: MUDZKVOPI_STEPS, the steps that this call took
- *   MUDZKVOPI_REFUSED   bits 32 to 47: MUDZKVOPI_RULE, the number of the rule, bits 0 to 31: MUDZKVOPI_PLACE, where it applies
+ *   MUDZKVOPI_DONE      bits 32 to 47: MUDZKVOPI_HIGH, bits 0 to 31: MUDZKVOPI_LOW, two counts
+ *                       that each call below names
+ *   HALTED .. FULL      a run ended so; bits 0 to 31: MUDZKVOPI_STEPS, the steps of this call
+ *   MUDZKVOPI_REFUSED   bits 32 to 47: MUDZKVOPI_RULE, the number of the rule, bits 0 to 31:
+ *                       MUDZKVOPI_PLACE, where it applies
  *
  * All bits that are not named are 0.
  */
@@ -43,32 +50,42 @@ enum mudzkvopi_what {
     MUDZKVOPI_HALTED = 1,  /* the run came to the line, or the place, after the last */
     MUDZKVOPI_STRAYED = 2, /* words only: the run is at any other place outside the word */
     MUDZKVOPI_SPENT = 3,   /* the budget is used up, or the count of steps stands at 4294967295 */
-    MUDZKVOPI_FULL = 4,    /* the next step would put more than the capacity into a register or a variable; it isn't done */
+    MUDZKVOPI_FULL = 4,    /* the next step, which isn't done, would put more than the capacity into
+                              a register or a variable */
     MUDZKVOPI_REFUSED = 255
 };
 
 /*
- * Rules, and their places. A call checks those that it lists, lower numbers first, but 4 to 7 line by line, and so 16 to 18 after the size of the sheet.
- * Lines count from 1. A list is judged by 3 to 8, each command as a line.
+ * Rules, and their places. A call checks those that it lists, lower numbers first, but 4 to 7 line
+ * by line, and so 16 to 18 after the size of the sheet. Lines count from 1. A list is judged by 3
+ * to 8, each command as a line.
  */
 enum mudzkvopi_rule {
     MUDZKVOPI_TEXT_TOO_LONG = 1,   /* the text is over 16384 bytes (place 0) */
     MUDZKVOPI_NO_LAST_LF = 2,      /* the text has bytes and its last isn't LF (the last line) */
     MUDZKVOPI_TOO_MANY_LINES = 3,  /* there are more than 512 lines (513) */
-    MUDZKVOPI_NO_COMMAND = 4,      /* a line is none of the spellings; a list's command is none, or is cut short (the line) */
+    MUDZKVOPI_NO_COMMAND = 4,      /* a line is none of the spellings; a list's command is none, or
+                                      is cut short (the line) */
     MUDZKVOPI_INDEX_TOO_HIGH = 5,  /* an index is above 31 (the line) */
     MUDZKVOPI_TOO_DEEP = 6,        /* a pair opens with 16 open (the line) */
-    MUDZKVOPI_NO_MATCH = 7,        /* a closing line doesn't match the innermost open pair, or none is open (the line) */
+    MUDZKVOPI_NO_MATCH = 7,        /* a closing line doesn't match the innermost open pair, or none
+                                      is open (the line) */
     MUDZKVOPI_LEFT_OPEN = 8,       /* a pair is left open (the innermost opening line) */
-    MUDZKVOPI_BAD_STATE = 9,       /* a source state isn't one of the program's, or doesn't have 51 numbers (0) */
-    MUDZKVOPI_BAD_MACHINE = 10,    /* a machine's sizes are outside the limits, or its store or lengths aren't as laid down below (0) */
+    MUDZKVOPI_BAD_STATE = 9,       /* a source state isn't one of the program's, or doesn't have 51
+                                      numbers (0) */
+    MUDZKVOPI_BAD_MACHINE = 10,    /* a machine's sizes are outside the limits, or its store or
+                                      lengths aren't as laid down below (0) */
     MUDZKVOPI_WORD_SIZE = 11,      /* the word is empty or above 600000 bytes (0) */
     MUDZKVOPI_NO_SYMBOL = 12,      /* a byte is neither '1' nor '#' (the first such, from 0) */
-    MUDZKVOPI_NO_INSTRUCTION = 13, /* the word starts with '#', has a sixth '#' running, or ends in '1' (0, that '#', the length) */
-    MUDZKVOPI_TOO_MANY = 14,       /* there are more than 8192 instructions (the next one's start) */
-    MUDZKVOPI_NO_REGISTER = 15,    /* an add or cases names a register that the machine lacks (the start of the first such) */
-    MUDZKVOPI_SHEET_SHAPE = 16,    /* a sheet is empty, too long or doesn't end in LF (0); a line has the wrong shape or count (the line) */
-    MUDZKVOPI_SHEET_NAME = 17,     /* a name isn't one of the program's variables, or comes twice (the line) */
+    MUDZKVOPI_NO_INSTRUCTION = 13, /* the word starts with '#', has a sixth '#' running, or ends in
+                                      '1' (0, that '#', the length) */
+    MUDZKVOPI_TOO_MANY = 14,       /* more than 8192 instructions (the next one's start) */
+    MUDZKVOPI_NO_REGISTER = 15,    /* an add or cases names a register that the machine lacks (the
+                                      start of the first such) */
+    MUDZKVOPI_SHEET_SHAPE = 16,    /* a sheet is empty, too long or doesn't end in LF (0); a line
+                                      has the wrong shape or count (the line) */
+    MUDZKVOPI_SHEET_NAME = 17,     /* a name isn't one of the program's variables, or comes twice
+                                      (the line) */
     MUDZKVOPI_SHEET_VALUE = 18,    /* a value is above the capacity (the line) */
     MUDZKVOPI_NO_ROOM = 19         /* a lent output is shorter than the result (0) */
 };
@@ -88,60 +105,93 @@ enum mudzkvopi_rule {
 uint32_t mudzkvopi_version(void);
 
 /*
- * Programs. A text has one command a line, each line ended by LF, or is empty. A list has three numbers a command: the kind, the index of the variable,
- * and the source's index of a copy, else 0. Kinds: 1 X3 <- 0, 2 X3 <- X3 + 1, 3 X3 <- X5, 4 loop X3, 5 endloop X3, 6 while X3 != 0, 7 endwhile X3 != 0.
+ * Programs. A text has one command a line, each line ended by LF, or is empty. A list has three
+ * numbers a command: the kind, the index of the variable, and the source's index of a copy, else 0.
+ * Kinds: 1 X3 <- 0, 2 X3 <- X3 + 1, 3 X3 <- X5, 4 loop X3, 5 endloop X3, 6 while X3 != 0, 7
+ * endwhile X3 != 0.
  */
 
-/* Reads a text into a list. DONE: HIGH the variables (the highest index plus 1, or 0), LOW the commands. Rules 1 to 8, 19. */
-uint64_t mudzkvopi_read_program(const uint8_t *text, size_t text_len, uint8_t *list, size_t list_len);
+/*
+ * Reads a text into a list. DONE: HIGH the variables (the highest index plus 1, or 0), LOW the
+ * commands. Rules 1 to 8, 19.
+ */
+uint64_t mudzkvopi_read_program(
+    const uint8_t *text, size_t text_len, uint8_t *list, size_t list_len);
 
 /* Writes a list as a text. DONE: LOW the bytes. Rules 3 to 8, 19. */
-uint64_t mudzkvopi_write_program(const uint8_t *list, size_t list_len, uint8_t *text, size_t text_len);
-
-/* Translates a program into its word. DONE: HIGH the instructions, LOW the symbols. Rules 1 to 8 (a list: 3 to 8), 19. */
-uint64_t mudzkvopi_translate(const uint8_t *text, size_t text_len, uint8_t *word, size_t word_len);
-uint64_t mudzkvopi_translate_list(const uint8_t *list, size_t list_len, uint8_t *word, size_t word_len);
+uint64_t mudzkvopi_write_program(
+    const uint8_t *list, size_t list_len, uint8_t *text, size_t text_len);
 
 /*
- * Runs of a program. A state is 51 numbers. A fresh state has a capacity of 1 to 1024, line 1, the values to start from, each at most the capacity, and 0
- * for all else; a run leaves the state from which a later call goes on.
+ * Translates a program into its word. DONE: HIGH the instructions, LOW the symbols. Rules 1 to 8 (a
+ * list: 3 to 8), 19.
+ */
+uint64_t mudzkvopi_translate(const uint8_t *text, size_t text_len, uint8_t *word, size_t word_len);
+uint64_t mudzkvopi_translate_list(
+    const uint8_t *list, size_t list_len, uint8_t *word, size_t word_len);
+
+/*
+ * Runs of a program. A state is 51 numbers. A fresh state has a capacity of 1 to 1024, line 1, the
+ * values to start from, each at most the capacity, and 0 for all else; a run leaves the state from
+ * which a later call goes on.
  */
 #define MUDZKVOPI_STATE_NUMBERS 51
 #define MUDZKVOPI_STATE_CAPACITY 0 /* the most that a variable may hold */
 #define MUDZKVOPI_STATE_LINE 1     /* the line that comes next */
 #define MUDZKVOPI_STATE_STEPS 2    /* the steps of all runs so far */
 #define MUDZKVOPI_STATE_VALUES 3   /* 32 of them: variable i at 3 + i */
-#define MUDZKVOPI_STATE_PASSES 35  /* 16 of them: the passes left of the loop that is inside so many others */
+#define MUDZKVOPI_STATE_PASSES 35  /* 16 of them: passes left of the loop inside so many others */
 
 /* Runs at most `budget` steps. HALTED, SPENT or FULL. Rules 1 to 8 (a list: 3 to 8), 9. */
-uint64_t mudzkvopi_run_source(const uint8_t *text, size_t text_len, uint32_t *state, size_t state_len, uint32_t budget);
-uint64_t mudzkvopi_run_source_list(const uint8_t *list, size_t list_len, uint32_t *state, size_t state_len, uint32_t budget);
+uint64_t mudzkvopi_run_source(
+    const uint8_t *text, size_t text_len, uint32_t *state, size_t state_len, uint32_t budget);
+uint64_t mudzkvopi_run_source_list(
+    const uint8_t *list, size_t list_len, uint32_t *state, size_t state_len, uint32_t budget);
 
 /*
- * Words. An instruction is n times '1' and then 1 to 5 times '#'. As numbers it has a kind, the times of '#', and an operand, n: 1 append '1' to register
- * n, 2 append '#' to it, 3 go n places forward, 4 go n places backward, 5 cases on register n.
+ * Words. An instruction is n times '1' and then 1 to 5 times '#'. As numbers it has a kind, the
+ * times of '#', and an operand, n: 1 append '1' to register n, 2 append '#' to it, 3 go n places
+ * forward, 4 go n places backward, 5 cases on register n.
  */
 
 /* Reads a word into kinds and operands. DONE: LOW the instructions. Rules 11 to 14, 19. */
-uint64_t mudzkvopi_read_word(const uint8_t *word, size_t word_len, uint8_t *kinds, size_t kinds_len, uint32_t *operands, size_t operands_len);
+uint64_t mudzkvopi_read_word(
+    const uint8_t *word, size_t word_len, uint8_t *kinds, size_t kinds_len, uint32_t *operands,
+    size_t operands_len);
 
 /*
- * Writes kinds and operands as a word. DONE: LOW the symbols. Rules 11, 13, 14, 19, whose places here are instructions, from 0; 11 is no instruction or
- * more than 600000 symbols, 13 a kind outside 1 to 5, an operand of 0, or one that is missing because one slice is shorter.
+ * Writes kinds and operands as a word. DONE: LOW the symbols. Rules 11, 13, 14, 19, whose places
+ * here are instructions, from 0; 11 is no instruction or more than 600000 symbols, 13 a kind
+ * outside 1 to 5, an operand of 0, or one that is missing because one slice is shorter.
  */
 uint64_t mudzkvopi_write_word(
-    const uint8_t *kinds, size_t kinds_len, const uint32_t *operands, size_t operands_len, uint8_t *word, size_t word_len);
+    const uint8_t *kinds, size_t kinds_len, const uint32_t *operands, size_t operands_len,
+    uint8_t *word, size_t word_len);
 
 /*
- * Runs a word on a machine, at most `budget` steps. A machine has 1 to 64 registers, all of one capacity of 1 to 1024 symbols. Register r, from 1, has its
- * place in the store from byte (r - 1) * capacity: its symbols, '1' and '#', and bytes of 0 after them. The store is exactly registers * capacity bytes,
- * and `lengths` has the number of symbols of each register. Variable i of a program is register i + 1, a value is so many '1', and all other registers are
- * empty at the start. `place` is the place of the next instruction, 1 at the start, and any value is allowed; `steps` counts the steps of all runs so far.
- * HALTED, STRAYED, SPENT or FULL. Rules 10 to 15.
+ * Runs a word on a machine, at most `budget` steps. A machine has 1 to 64 registers, all of one
+ * capacity of 1 to 1024 symbols. Register r, from 1, has its place in the store from byte (r - 1) *
+ * capacity: its symbols, '1' and '#', and bytes of 0 after them. The store is exactly registers *
+ * capacity bytes, and `lengths` has the number of symbols of each register. Variable i of a program
+ * is register i + 1, a value is so many '1', and all other registers are empty at the start.
+ * `place` is the place of the next instruction, 1 at the start, and any value is allowed; `steps`
+ * counts the steps of all runs so far. HALTED, STRAYED, SPENT or FULL. Rules 10 to 15.
  */
 uint64_t mudzkvopi_run_word(
-    uint32_t registers, uint32_t capacity, uint8_t *store, size_t store_len, uint16_t *lengths, size_t lengths_len, int32_t *place, uint32_t *steps,
-    const uint8_t *word, size_t word_len, uint32_t budget);
+    uint32_t registers, uint32_t capacity, uint8_t *store, size_t store_len, uint16_t *lengths,
+    size_t lengths_len, int32_t *place, uint32_t *steps, const uint8_t *word, size_t word_len,
+    uint32_t budget);
+
+/*
+ * The same for a word that was read into kinds and operands, which are run as they are lent: for
+ * firmware that has little memory, or runs one word often. It needs no more stack than
+ * MUDZKVOPI_TABLE_STACK_BYTES. Rules 10, 11, 13, 14, 15: 11 and 13 mean what they mean for
+ * mudzkvopi_write_word, and places are instructions, from 0.
+ */
+uint64_t mudzkvopi_run_table(
+    uint32_t registers, uint32_t capacity, uint8_t *store, size_t store_len, uint16_t *lengths,
+    size_t lengths_len, int32_t *place, uint32_t *steps, const uint8_t *kinds, size_t kinds_len,
+    const uint32_t *operands, size_t operands_len, uint32_t budget);
 
 #ifdef __cplusplus
 }

@@ -1,6 +1,7 @@
 /*
- * A host of the library in C: translates a program, prints its word as the label has it, runs the program and the word, and prints the counts of both.
- * Then the same from a list, a budget cut in two, a run that is full, and refusals. What it writes is held to host-expected.txt.
+ * A host of the library in C: translates a program, prints its word as the label has it, runs the program and the word, and prints the
+ * counts of both. Then the same from a list, a table run twice, a budget cut in two, a run that is full, and refusals. What it writes is
+ * held to host-expected.txt.
  */
 #include <inttypes.h>
 #include <stdio.h>
@@ -82,8 +83,8 @@ static void run_both(const char *text, uint32_t capacity, uint32_t variable, uin
     printf("X0 is %" PRIu32 "\n", state[MUDZKVOPI_STATE_VALUES]);
 
     fresh_machine(capacity, variable, value);
-    result = mudzkvopi_run_word(
-        REGISTERS, capacity, store, REGISTERS * (size_t)capacity, lengths, REGISTERS, &place, &steps, word, MUDZKVOPI_LOW(translated), 1000000);
+    result = mudzkvopi_run_word(REGISTERS, capacity, store, REGISTERS * (size_t)capacity, lengths, REGISTERS, &place, &steps, word,
+        MUDZKVOPI_LOW(translated), 1000000);
     print_result("word", result);
     printf("register 1 has %u symbols, place %" PRId32 ", %" PRIu32 " steps\n", (unsigned)lengths[0], place, steps);
 }
@@ -123,12 +124,32 @@ static void instructions(void)
     static uint8_t kinds[MUDZKVOPI_MAX_INSTRUCTIONS];
     static uint32_t operands[MUDZKVOPI_MAX_INSTRUCTIONS];
     uint8_t back[sizeof "11#####1#"] = { 0 };
-    uint64_t read = mudzkvopi_read_word((const uint8_t *)"11#####1#", 9, kinds, MUDZKVOPI_MAX_INSTRUCTIONS, operands, MUDZKVOPI_MAX_INSTRUCTIONS);
+    uint64_t read = mudzkvopi_read_word(
+        (const uint8_t *)"11#####1#", 9, kinds, MUDZKVOPI_MAX_INSTRUCTIONS, operands, MUDZKVOPI_MAX_INSTRUCTIONS);
 
     print_result("read_word", read);
     printf("kind %u operand %" PRIu32 ", kind %u operand %" PRIu32 "\n", (unsigned)kinds[0], operands[0], (unsigned)kinds[1], operands[1]);
     print_result("write_word", mudzkvopi_write_word(kinds, MUDZKVOPI_LOW(read), operands, MUDZKVOPI_LOW(read), back, 9));
     printf("%s\n", (const char *)back);
+}
+
+/* A word read once, and its table run for two values. */
+static void table(void)
+{
+    static uint8_t kinds[MUDZKVOPI_MAX_INSTRUCTIONS];
+    static uint32_t operands[MUDZKVOPI_MAX_INSTRUCTIONS];
+    size_t symbols = MUDZKVOPI_LOW(translate(adder));
+    size_t count = MUDZKVOPI_LOW(
+        mudzkvopi_read_word(word, symbols, kinds, MUDZKVOPI_MAX_INSTRUCTIONS, operands, MUDZKVOPI_MAX_INSTRUCTIONS));
+
+    for (uint32_t value = 3; value < 5; value++) {
+        int32_t place = 1;
+        uint32_t steps = 0;
+        fresh_machine(CAPACITY, 1, value);
+        print_result("table", mudzkvopi_run_table(
+            REGISTERS, CAPACITY, store, sizeof store, lengths, REGISTERS, &place, &steps, kinds, count, operands, count, 1000000));
+        printf("register 1 has %u symbols, place %" PRId32 ", %" PRIu32 " steps\n", (unsigned)lengths[0], place, steps);
+    }
 }
 
 /* A budget cut in two: the state goes on from where the first call left it. */
@@ -158,6 +179,10 @@ static void refusals(void)
     print_result("short store", mudzkvopi_run_word(2, CAPACITY, store, CAPACITY, lengths, 2, &place, &steps, (const uint8_t *)"1#", 2, 1));
     print_result(
         "no register", mudzkvopi_run_word(2, CAPACITY, store, 2 * CAPACITY, lengths, 2, &place, &steps, (const uint8_t *)"1#111#", 6, 1));
+    print_result("no register in a table", mudzkvopi_run_table(
+        2, CAPACITY, store, 2 * CAPACITY, lengths, 2, &place, &steps, (const uint8_t[]){ 1, 1 }, 2, (const uint32_t[]){ 1, 3 }, 2, 1));
+    print_result("an operand too few", mudzkvopi_run_table(
+        2, CAPACITY, store, 2 * CAPACITY, lengths, 2, &place, &steps, (const uint8_t[]){ 1, 1 }, 2, (const uint32_t[]){ 1 }, 1, 1));
     printf("place %" PRId32 ", %" PRIu32 " steps, register 1 has %u symbols\n", place, steps, (unsigned)lengths[0]);
 }
 
@@ -170,6 +195,7 @@ int main(void)
     label();
     from_list();
     instructions();
+    table();
     cut_in_two();
     run_both("X0 <- X0 + 1\n", 2, 0, 2);
     refusals();

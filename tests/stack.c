@@ -1,6 +1,7 @@
 /*
- * The stack that each entry takes: it is called on a thread whose stack was painted, and the bytes that are no longer paint are counted. The inputs are the
- * deepest and longest that are accepted: 16 loops around 480 copies, and its word of 311,044 symbols. Less the same count for an entry that does nothing.
+ * The stack that each entry takes, held to what the header promises: it is called on a thread whose stack was painted, and the bytes that
+ * are no longer paint are counted, less the same count for an entry that does nothing. The inputs are the deepest and longest that are
+ * accepted: 16 loops around 480 copies, and its word of 311,044 symbols.
  */
 #define _GNU_SOURCE
 #include <pthread.h>
@@ -31,9 +32,16 @@ static void translate(void) { word_len = MUDZKVOPI_LOW(mudzkvopi_translate((uint
 static void translate_list(void) { mudzkvopi_translate_list(list, sizeof list, word, sizeof word); }
 static void run_source(void) { mudzkvopi_run_source((uint8_t *)text, text_len, state, MUDZKVOPI_STATE_NUMBERS, 1000); }
 static void run_source_list(void) { mudzkvopi_run_source_list(list, sizeof list, state, MUDZKVOPI_STATE_NUMBERS, 1000); }
-static void read_word(void) { count = MUDZKVOPI_LOW(mudzkvopi_read_word(word, word_len, kinds, sizeof kinds, operands, MUDZKVOPI_MAX_INSTRUCTIONS)); }
+static void read_word(void)
+{
+    count = MUDZKVOPI_LOW(mudzkvopi_read_word(word, word_len, kinds, sizeof kinds, operands, MUDZKVOPI_MAX_INSTRUCTIONS));
+}
 static void write_word(void) { mudzkvopi_write_word(kinds, count, operands, count, back, sizeof back); }
 static void run_word(void) { mudzkvopi_run_word(64, 1024, store, sizeof store, lengths, 64, &place, &steps, word, word_len, 1000); }
+static void run_table(void)
+{
+    mudzkvopi_run_table(64, 1024, store, sizeof store, lengths, 64, &place, &steps, kinds, count, operands, count, 1000);
+}
 
 static void *call(void *entry)
 {
@@ -65,6 +73,7 @@ int main(void)
         { "read_program", read_program },       { "write_program", write_program },     { "translate", translate },
         { "translate_list", translate_list },   { "run_source", run_source },           { "run_source_list", run_source_list },
         { "read_word", read_word },             { "write_word", write_word },           { "run_word", run_word },
+        { "run_table", run_table },
     };
     size_t base = stack_of(version);
 
@@ -77,7 +86,12 @@ int main(void)
     state[MUDZKVOPI_STATE_CAPACITY] = 1024;
     state[MUDZKVOPI_STATE_LINE] = 1;
     state[MUDZKVOPI_STATE_VALUES + 31] = 5;
-    for (size_t i = 0; i < sizeof entries / sizeof *entries; i++)
-        printf("%-16s %6zu bytes\n", entries[i].name, stack_of(entries[i].entry) - base);
+    for (size_t i = 0; i < sizeof entries / sizeof *entries; i++) {
+        size_t bytes = stack_of(entries[i].entry) - base;
+        size_t most = entries[i].entry == run_table ? MUDZKVOPI_TABLE_STACK_BYTES : MUDZKVOPI_STACK_BYTES;
+        printf("%-16s %6zu bytes\n", entries[i].name, bytes);
+        if (bytes > most)
+            return 1;
+    }
     return 0;
 }

@@ -1,4 +1,5 @@
-//! A case: one call with all that it is given. The twin and the library each make an outcome of it; one on which they differ can be cut smaller.
+//! A case: one call with all that it is given. The twin and the library each make an outcome of it; one on which they differ can be cut
+//! smaller.
 
 #[cfg(feature = "library")]
 use crate::library::{self, RunTool};
@@ -53,7 +54,8 @@ impl Program {
     }
 }
 
-/// A call. `lent`, and the two lengths of a word's reading, are the elements of the output. A text is converted to a list, and a list to a text.
+/// A call. `lent`, and the two lengths of a word's reading, are the elements of the output. A text is converted to a list, and a list to
+/// a text.
 #[derive(Clone)]
 pub enum Case {
     Convert { program: Program, lent: usize },
@@ -62,6 +64,7 @@ pub enum Case {
     ReadWord { word: Vec<u8>, kinds: usize, operands: usize },
     WriteWord { kinds: Vec<u8>, operands: Vec<u32>, lent: usize },
     RunWord { word: Vec<u8>, machine: Machine, budget: u32 },
+    RunTable { kinds: Vec<u8>, operands: Vec<u32>, machine: Machine, budget: u32 },
     Report { text: Vec<u8>, sheet: Vec<u8> },
 }
 
@@ -73,6 +76,9 @@ impl fmt::Debug for Case {
             Case::ReadWord { word, kinds, operands } => write!(f, "\"{}\", lent {kinds} and {operands}", word.escape_ascii()),
             Case::WriteWord { kinds, operands, lent } => write!(f, "kinds {kinds:?}, operands {operands:?}, lent {lent}"),
             Case::RunWord { word, machine, budget } => write!(f, "\"{}\", {machine:?}, budget {budget}", word.escape_ascii()),
+            Case::RunTable { kinds, operands, machine, budget } => {
+                write!(f, "kinds {kinds:?}, operands {operands:?}, {machine:?}, budget {budget}")
+            }
             Case::Report { text, sheet } => write!(f, "\"{}\", sheet \"{}\"", text.escape_ascii(), sheet.escape_ascii()),
         }
     }
@@ -151,9 +157,10 @@ fn read_word(word: &[u8], kinds: usize, operands: usize) -> Outcome {
     Outcome { answer, memory }
 }
 
-fn run_word(word: &[u8], from: &Machine, budget: u32) -> Outcome {
+/// A run of instructions that the machine has accepted, or not.
+fn run_accepted(accepted: Result<Vec<Instruction>, Refusal>, from: &Machine, budget: u32) -> Outcome {
     let mut machine = from.clone();
-    let answer = match machine.accept(word) {
+    let answer = match accepted {
         Err(r) => Answer::Refused(r),
         Ok(table) => {
             let (end, steps) = machine.run(&table, budget);
@@ -183,6 +190,7 @@ impl Case {
             Case::ReadWord { .. } => "read a word",
             Case::WriteWord { .. } => "write a word",
             Case::RunWord { .. } => "run a word",
+            Case::RunTable { .. } => "run a table",
             Case::Report { .. } => "the run tool",
         }
     }
@@ -204,7 +212,11 @@ impl Case {
                 let table = zipped(kinds, operands);
                 written(word::check_table(&table).map(|()| spell(&table)), *lent, 0, 1)
             }
-            Case::RunWord { word, machine, budget } => run_word(word, machine, *budget),
+            Case::RunWord { word, machine, budget } => run_accepted(machine.accept(word), machine, *budget),
+            Case::RunTable { kinds, operands, machine, budget } => {
+                let table = zipped(kinds, operands);
+                run_accepted(machine.accept_table(&table).map(|()| table), machine, *budget)
+            }
             Case::Report { text, sheet } => printed(&tool::report(text, sheet)),
         }
     }
@@ -239,6 +251,11 @@ impl Case {
                 let answer = library::run_word(&mut machine, word, *budget);
                 Outcome { answer, memory: memory(&machine) }
             }
+            Case::RunTable { kinds, operands, machine, budget } => {
+                let mut machine = machine.clone();
+                let answer = library::run_table(&mut machine, kinds, operands, *budget);
+                Outcome { answer, memory: memory(&machine) }
+            }
             Case::Report { text, sheet } => printed(&tool.run(text, sheet)),
         }
     }
@@ -257,7 +274,8 @@ impl Case {
             Case::RunSource { program, state, budget } => {
                 let programs = program.shorter().map(|program| Case::RunSource { program, state: state.clone(), budget: *budget });
                 let states = lower(state).map(|state| Case::RunSource { program: program.clone(), state, budget: *budget });
-                let budgets = less(*budget as usize).map(|b| Case::RunSource { program: program.clone(), state: state.clone(), budget: b as u32 });
+                let budgets =
+                    less(*budget as usize).map(|b| Case::RunSource { program: program.clone(), state: state.clone(), budget: b as u32 });
                 Box::new(programs.chain(states).chain(budgets))
             }
             Case::ReadWord { word, kinds, operands } => {
@@ -265,14 +283,29 @@ impl Case {
                 Box::new(words.chain(less(*kinds).map(|kinds| Case::ReadWord { word: word.clone(), kinds, operands: *operands })))
             }
             Case::WriteWord { kinds, operands, lent } => {
-                let tables = shorter(kinds).zip(shorter(operands)).map(|(kinds, operands)| Case::WriteWord { kinds, operands, lent: *lent });
+                let tables =
+                    shorter(kinds).zip(shorter(operands)).map(|(kinds, operands)| Case::WriteWord { kinds, operands, lent: *lent });
                 Box::new(tables.chain(lower(operands).map(|operands| Case::WriteWord { kinds: kinds.clone(), operands, lent: *lent })))
             }
             Case::RunWord { word, machine, budget } => {
                 let words = shorter(word).map(|word| Case::RunWord { word, machine: machine.clone(), budget: *budget });
                 let machines = emptier(machine).into_iter().map(|machine| Case::RunWord { word: word.clone(), machine, budget: *budget });
-                let budgets = less(*budget as usize).map(|b| Case::RunWord { word: word.clone(), machine: machine.clone(), budget: b as u32 });
+                let budgets =
+                    less(*budget as usize).map(|b| Case::RunWord { word: word.clone(), machine: machine.clone(), budget: b as u32 });
                 Box::new(words.chain(machines).chain(budgets))
+            }
+            Case::RunTable { kinds, operands, machine, budget } => {
+                let with = |kinds: &[u8], operands: &[u32], machine: &Machine, budget: u32| Case::RunTable {
+                    kinds: kinds.to_vec(),
+                    operands: operands.to_vec(),
+                    machine: machine.clone(),
+                    budget,
+                };
+                let tables = shorter(kinds).zip(shorter(operands)).map(move |(k, o)| with(&k, &o, machine, *budget));
+                let operands_less = lower(operands).map(move |o| with(kinds, &o, machine, *budget));
+                let machines = emptier(machine).into_iter().map(move |m| with(kinds, operands, &m, *budget));
+                let budgets = less(*budget as usize).map(move |b| with(kinds, operands, machine, b as u32));
+                Box::new(tables.chain(operands_less).chain(machines).chain(budgets))
             }
             Case::Report { text, sheet } => {
                 let texts = shorter(text).map(|text| Case::Report { text, sheet: sheet.clone() });
@@ -285,7 +318,9 @@ impl Case {
 /// What is left when one piece is cut out, largest pieces first.
 fn shorter<T: Clone>(items: &[T]) -> impl Iterator<Item = Vec<T>> + '_ {
     let pieces = successors(Some(items.len()), |n| Some(n / 2)).take_while(|&n| n > 0);
-    pieces.flat_map(move |piece| (0..items.len()).step_by(piece).map(move |at| [&items[..at], &items[(at + piece).min(items.len())..]].concat()))
+    pieces.flat_map(move |piece| {
+        (0..items.len()).step_by(piece).map(move |at| [&items[..at], &items[(at + piece).min(items.len())..]].concat())
+    })
 }
 
 fn less(n: usize) -> impl Iterator<Item = usize> {

@@ -127,7 +127,8 @@ pub fn programs() -> Vec<Vec<Command>> {
         found.push(faulty);
     }
     found.push(
-        [vec![Command::Open(Kind::Loop, 31); 16], vec![Command::Copy { to: 31, from: 30 }; 480], vec![Command::Close(Kind::Loop, 31); 16]].concat(),
+        [vec![Command::Open(Kind::Loop, 31); 16], vec![Command::Copy { to: 31, from: 30 }; 480], vec![Command::Close(Kind::Loop, 31); 16]]
+            .concat(),
     );
     found.extend(long_words());
     found

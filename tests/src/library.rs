@@ -1,4 +1,5 @@
-//! The library's C entries, as safe functions that answer in the twin's types, and the run tool. The declarations are those of `include/mudzkvopi.h`.
+//! The library's C entries, as safe functions that answer in the twin's types, and the run tool. The declarations are those of
+//! `include/mudzkvopi.h`.
 
 use crate::machine::Machine;
 use crate::{Answer, End, Refusal};
@@ -13,8 +14,22 @@ extern "C" {
     fn mudzkvopi_translate_list(list: *const u8, list_len: usize, word: *mut u8, word_len: usize) -> u64;
     fn mudzkvopi_run_source(text: *const u8, text_len: usize, state: *mut u32, state_len: usize, budget: u32) -> u64;
     fn mudzkvopi_run_source_list(list: *const u8, list_len: usize, state: *mut u32, state_len: usize, budget: u32) -> u64;
-    fn mudzkvopi_read_word(word: *const u8, word_len: usize, kinds: *mut u8, kinds_len: usize, operands: *mut u32, operands_len: usize) -> u64;
-    fn mudzkvopi_write_word(kinds: *const u8, kinds_len: usize, operands: *const u32, operands_len: usize, word: *mut u8, word_len: usize) -> u64;
+    fn mudzkvopi_read_word(
+        word: *const u8,
+        word_len: usize,
+        kinds: *mut u8,
+        kinds_len: usize,
+        operands: *mut u32,
+        operands_len: usize,
+    ) -> u64;
+    fn mudzkvopi_write_word(
+        kinds: *const u8,
+        kinds_len: usize,
+        operands: *const u32,
+        operands_len: usize,
+        word: *mut u8,
+        word_len: usize,
+    ) -> u64;
     fn mudzkvopi_run_word(
         registers: u32,
         capacity: u32,
@@ -26,6 +41,21 @@ extern "C" {
         steps: *mut u32,
         word: *const u8,
         word_len: usize,
+        budget: u32,
+    ) -> u64;
+    fn mudzkvopi_run_table(
+        registers: u32,
+        capacity: u32,
+        store: *mut u8,
+        store_len: usize,
+        lengths: *mut u16,
+        lengths_len: usize,
+        place: *mut i32,
+        steps: *mut u32,
+        kinds: *const u8,
+        kinds_len: usize,
+        operands: *const u32,
+        operands_len: usize,
         budget: u32,
     ) -> u64;
 }
@@ -70,7 +100,9 @@ pub fn run_source_list(list: &[u8], state: &mut [u32], budget: u32) -> Answer {
 }
 
 pub fn read_word(word: &[u8], kinds: &mut [u8], operands: &mut [u32]) -> Answer {
-    unpack(unsafe { mudzkvopi_read_word(word.as_ptr(), word.len(), kinds.as_mut_ptr(), kinds.len(), operands.as_mut_ptr(), operands.len()) })
+    unpack(unsafe {
+        mudzkvopi_read_word(word.as_ptr(), word.len(), kinds.as_mut_ptr(), kinds.len(), operands.as_mut_ptr(), operands.len())
+    })
 }
 
 pub fn write_word(kinds: &[u8], operands: &[u32], word: &mut [u8]) -> Answer {
@@ -90,6 +122,26 @@ pub fn run_word(machine: &mut Machine, word: &[u8], budget: u32) -> Answer {
             &mut machine.steps,
             word.as_ptr(),
             word.len(),
+            budget,
+        )
+    })
+}
+
+pub fn run_table(machine: &mut Machine, kinds: &[u8], operands: &[u32], budget: u32) -> Answer {
+    unpack(unsafe {
+        mudzkvopi_run_table(
+            machine.registers as u32,
+            machine.capacity as u32,
+            machine.store.as_mut_ptr(),
+            machine.store.len(),
+            machine.lengths.as_mut_ptr(),
+            machine.lengths.len(),
+            &mut machine.place,
+            &mut machine.steps,
+            kinds.as_ptr(),
+            kinds.len(),
+            operands.as_ptr(),
+            operands.len(),
             budget,
         )
     })

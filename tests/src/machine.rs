@@ -19,7 +19,8 @@ pub struct Machine {
 impl Machine {
     /// Place 1, no steps, and registers that begin with these contents, the others empty.
     pub fn fresh(registers: usize, capacity: usize, contents: &[Vec<u8>]) -> Machine {
-        let mut machine = Machine { registers, capacity, store: vec![0; registers * capacity], lengths: vec![0; registers], place: 1, steps: 0 };
+        let mut machine =
+            Machine { registers, capacity, store: vec![0; registers * capacity], lengths: vec![0; registers], place: 1, steps: 0 };
         for (at, symbols) in contents.iter().enumerate() {
             machine.store[at * capacity..at * capacity + symbols.len()].copy_from_slice(symbols);
             machine.lengths[at] = symbols.len() as u16;
@@ -56,6 +57,16 @@ impl Machine {
         match lacking(&table, self.registers) {
             Some(entry) => refuse(15, offset(&table, entry)),
             None => Ok(table),
+        }
+    }
+
+    /// A table that is to be run here, by rules 10, 11, 13, 14 and 15; places are entries.
+    pub fn accept_table(&self, table: &[Instruction]) -> Result<(), Refusal> {
+        self.check()?;
+        word::check_table(table)?;
+        match lacking(table, self.registers) {
+            Some(entry) => refuse(15, entry),
+            None => Ok(()),
         }
     }
 

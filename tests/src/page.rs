@@ -90,6 +90,11 @@ fn of_program(program: Program, state: State) -> Vec<Case> {
     ]
 }
 
+/// The kinds and the operands of a table.
+fn entries(numbers: &[u32]) -> (Vec<u8>, Vec<u32>) {
+    (numbers.iter().step_by(2).map(|&n| n as u8).collect(), numbers.iter().skip(1).step_by(2).copied().collect())
+}
+
 impl Example {
     /// Capacity, line, the values and, behind the `/`, the passes-left.
     fn state(&self) -> State {
@@ -134,16 +139,27 @@ impl Example {
                 let run = |program: Program| Case::RunSource { program, state: self.state().numbers().to_vec(), budget: 1 };
                 vec![run(program), run(list)]
             }
-            "memory" => vec![Case::RunWord { word: b"1###".to_vec(), machine: self.machine(), budget: 1 }],
+            "memory" => vec![
+                Case::RunWord { word: b"1###".to_vec(), machine: self.machine(), budget: 1 },
+                Case::RunTable { kinds: vec![3], operands: vec![1], machine: self.machine(), budget: 1 },
+            ],
             "word" => vec![
                 Case::ReadWord { word: text(), kinds: 8_192, operands: 8_192 },
                 Case::RunWord { word: text(), machine: Machine::fresh(REGISTERS, 1, &[]), budget: 1 },
             ],
-            "table" => vec![Case::WriteWord {
-                kinds: numbers.iter().step_by(2).map(|&n| n as u8).collect(),
-                operands: numbers.iter().skip(1).step_by(2).copied().collect(),
-                lent: 600_000,
-            }],
+            "table" => {
+                let (kinds, operands) = entries(&numbers);
+                let machine = Machine::fresh(REGISTERS, 1, &[]);
+                vec![
+                    Case::WriteWord { kinds: kinds.clone(), operands: operands.clone(), lent: 600_000 },
+                    Case::RunTable { kinds, operands, machine, budget: 1 },
+                ]
+            }
+            "entries" => {
+                let (kinds, operands) = entries(&self.numbers[1]);
+                let machine = Machine::fresh(self.numbers[0][0] as usize, 1, &[]);
+                vec![Case::RunTable { kinds, operands, machine, budget: 1 }]
+            }
             "machine" => vec![Case::RunWord { word: text(), machine: Machine::fresh(numbers[0] as usize, 1, &[]), budget: 1 }],
             "sheet" => vec![Case::Report { text: text(), sheet: self.texts[1].clone() }],
             "translate" => vec![Case::Translate { program: Program::Text(text()), lent: numbers[0] as usize }],

@@ -31,7 +31,13 @@ impl State {
 
     pub fn from_numbers(numbers: &[u32]) -> Option<State> {
         let (values, passes) = (numbers.get(3..35)?, numbers.get(35..)?);
-        Some(State { capacity: numbers[0], line: numbers[1], steps: numbers[2], values: values.try_into().ok()?, passes: passes.try_into().ok()? })
+        Some(State {
+            capacity: numbers[0],
+            line: numbers[1],
+            steps: numbers[2],
+            values: values.try_into().ok()?,
+            passes: passes.try_into().ok()?,
+        })
     }
 }
 

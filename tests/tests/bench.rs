@@ -82,7 +82,8 @@ fn run_tool() {
 
 #[test]
 fn run_tool_budgets() {
-    let ends = edges::budgets().map(|(text, sheet)| tool::report(text.as_bytes(), sheet.as_bytes()).lines().last().unwrap_or_default().to_string());
+    let ends = edges::budgets()
+        .map(|(text, sheet)| tool::report(text.as_bytes(), sheet.as_bytes()).lines().last().unwrap_or_default().to_string());
     assert!(ends[0].starts_with("halted 100000 "), "{}", ends[0]);
     assert!(ends[1].starts_with("spent 100000 "), "{}", ends[1]);
     assert!(ends[2].contains(" halted 1000000 "), "{}", ends[2]);

@@ -1,5 +1,5 @@
-//! Demand 3 and the claim on full, tried: programs by chance, their words run by the twin, ends, steps, registers and charges compared. Where the
-//! library is linked the words are those that it translates, else the twin's own.
+//! Demand 3 and the claim on full, tried: programs by chance, their words run by the twin, ends, steps, registers and charges compared.
+//! Where the library is linked the words are those that it translates, else the twin's own.
 
 use twin::machine::Machine;
 use twin::program::{variables, Command};

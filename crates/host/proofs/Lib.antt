@@ -1,3 +1,3 @@
 pub mod Numbers
-pub mod Packs
+pub mod WordRuns
 pub mod SourceRuns

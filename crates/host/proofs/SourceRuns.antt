@@ -11,17 +11,17 @@ use Rattle.theory.specs.ProgramText.{Command}
 use Rattle.theory.specs.Runs.{Outcome}
 use Rattle.theory.specs.Source as S
 use Rattle.theory.specs.Machines.{SourceState}
-use Rattle.theory.specs.TurnedDown.{Answer, done, refused, after, rule-9, is-source}
+use Rattle.theory.specs.TurnedDown.{Answer, done, refused, after, rule-9, is-source, run-from}
 use Rattle.theory.proofs.GoodMemory.{length-cells}
-use Rattle.source.specs.Answers.{HandsBack, source-state, fresh-state, run-from, state-by, moved-by}
+use Rattle.source.specs.Answers.{HandsBack, source-state, fresh-state, state-by, moved-by}
 use Rattle.source.specs.declared.State.{State}
 use Rattle.source.specs.declared.Run.{Run}
-use Rattle.host.specs.Packed.{packed, ending}
-use Rattle.host.specs.Answered.{source-ended}
+use Rattle.packing.specs.Packed.{packed, ending}
+use Rattle.packing.specs.Answered.{source-ended}
 use Rattle.host.specs.Entries.{RunsSource}
 use Rattle.host.specs.States.{state-of, numbers-of, run-numbers, numbers-by}
 use Rattle.host.proofs.Numbers.{part-length}
-use Rattle.host.proofs.Packs.{packs-source}
+use Rattle.packing.proofs.Packs.{packs-source}
 
 -- A state has 32 values and 16 passes-left
 pub record Sized (s : State) : Type 0 where
@@ -69,17 +69,17 @@ turned-down p = refused (record { number = 9; place = 0 })
 
 -- From 51 numbers, a run from the state that they are
 module _ (A : Answer (List Command)) (l : List ℕ) (budget : ℕ) (size : length l ≡ 51) (r : Run) where
-  same-answer : after A (run-from (state-of l) budget) ≡ after A (run-numbers l budget)
+  same-answer : after A (run-from (source-state (state-of l)) budget) ≡ after A (run-numbers l budget)
   unfolding run-numbers
   same-answer =
       after-same A _ _
-      λ p. sym (ap (λ (t : Bool). cond t (run-from (state-of l) budget p) (turned-down p)) (eq-eqb (length l) 51 size))
+      λ p. sym (ap (λ (t : Bool). cond t (run-from (source-state (state-of l)) budget p) (turned-down p)) (eq-eqb (length l) 51 size))
 
-  pub runs-state : (s : State) (n : ℕ) (l′ : List ℕ) → s ≡ state-of l → HandsBack s (after A (run-from s budget)) r
+  pub runs-state : (s : State) (n : ℕ) (l′ : List ℕ) → s ≡ state-of l → HandsBack s (after A (run-from (source-state s) budget)) r
       → n ≡ source-ended (r .ended) → l′ ≡ numbers-of (r .state) → RunsSource A l budget n l′
   runs-state s n l′ e back result numbers =
-      let a : Answer (Outcome S.State) = after A (run-from (state-of l) budget) in
-      let h : HandsBack (state-of l) a r = subst (λ (t : State). HandsBack t (after A (run-from t budget)) r) e back in
+      let a : Answer (Outcome S.State) = after A (run-from (source-state (state-of l)) budget) in
+      let h : HandsBack (state-of l) a r = subst (λ (t : State). HandsBack t (after A (run-from (source-state t) budget)) r) e back in
       let sized : Sized (r .state) = rw (h .state) (sized-by (state-of l) (sized-of l size) a) in
       record {
         result = result ∙ ap source-ended (h .ended) ∙ packs-source a ∙ ap (packed ending) same-answer;
@@ -90,7 +90,7 @@ module _ (A : Answer (List Command)) (l : List ℕ) (budget : ℕ) (size : lengt
       }
 
 -- From another number of numbers: rule 9, as for a state of no capacity
-no-room : (v : List ℕ) (budget : ℕ) (p : List Command) → run-from (fresh-state 0 v) budget p ≡ turned-down p
+no-room : (v : List ℕ) (budget : ℕ) (p : List Command) → run-from (source-state (fresh-state 0 v)) budget p ≡ turned-down p
 unfolding run-from rule-9 is-source
 no-room v budget p = refl
 
@@ -109,16 +109,16 @@ module _ (A : Answer (List Command)) (l : List ℕ) (budget : ℕ) (other : leng
   unfolding run-numbers
   refused-answer =
       after-same A _ _
-      λ p. sym (ap (λ (t : Bool). cond t (run-from (state-of l) budget p) (turned-down p)) (ne-eqb (length l) 51 other))
+      λ p. sym (ap (λ (t : Bool). cond t (run-from (source-state (state-of l)) budget p) (turned-down p)) (ne-eqb (length l) 51 other))
 
-  pub runs-none : (s : State) (n : ℕ) (v : List ℕ) → s ≡ fresh-state 0 v → HandsBack s (after A (run-from s 0)) r
+  pub runs-none : (s : State) (n : ℕ) (v : List ℕ) → s ≡ fresh-state 0 v → HandsBack s (after A (run-from (source-state s) 0)) r
       → n ≡ source-ended (r .ended) → RunsSource A l budget n l
   runs-none s n v e back result =
-      let down : after A (run-from s 0) ≡ after A turned-down
-      = after-same A _ _ λ p. ap (λ (t : State). run-from t 0 p) e ∙ no-room v 0 p in
+      let down : after A (run-from (source-state s) 0) ≡ after A turned-down
+      = after-same A _ _ λ p. ap (λ (t : State). run-from (source-state t) 0 p) e ∙ no-room v 0 p in
       record {
         result
-            = result ∙ ap source-ended (back .ended) ∙ packs-source (after A (run-from s 0))
+            = result ∙ ap source-ended (back .ended) ∙ packs-source (after A (run-from (source-state s) 0))
             ∙ ap (packed ending) down ∙ ap (packed ending) refused-answer;
         numbers-after = sym (kept A l) ∙ ap (numbers-by l) refused-answer;
         stands = sym (unmoved A (source-state (state-of l))) ∙ ap (moved-by (source-state (state-of l))) refused-answer;

@@ -3,32 +3,29 @@ use mathlib.Core.Path.{_≡_}
 use mathlib.Core.List.{List}
 use Prim.Native.Nat.{ℕ}
 use lib.IntN.{ℤ}
+use Rattle.theory.specs.TurnedDown.{write-word-into, translate-into, run-on}
 use Rattle.theory.specs.Text.{Bytes}
 use Rattle.theory.specs.ProgramText.{Command, list-of}
-use Rattle.theory.specs.Runs.{Outcome}
 use Rattle.theory.specs.Word.{Entry}
-use Rattle.theory.specs.Word as W
 use Rattle.theory.specs.Translation.{word-text}
-use Rattle.theory.specs.Machines.{Memory, run-word}
-use Rattle.theory.specs.TurnedDown.{Answer, after, mapped, read-word-for, instructions, lent-after}
-use Rattle.translation.specs.Answers.{translate-into}
+use Rattle.theory.specs.Machines.{Memory}
+use Rattle.theory.specs.TurnedDown.{Answer, after, mapped, lent-after, read-program-into, write-program-into, read-word-into}
 use Rattle.source.specs.Answers.{source-state, moved-by}
-use Rattle.program.specs.Answers as Programs
 use Rattle.word.specs.Answers as Words
-use Rattle.machine.specs.Calls.{position, checked, word-called}
-use Rattle.machine.specs.declared.answers.Position.{Position}
-use Rattle.host.specs.Packed.{packed, commands, sizes, count, ending}
+use Rattle.memory.specs.Calls.{position, answered}
+use Rattle.memory.specs.declared.answers.Position.{Position}
+use Rattle.packing.specs.Packed.{packed, commands, sizes, count, ending}
 use Rattle.host.specs.States.{state-of, run-numbers, numbers-by}
 
 -- A text read into a lent list of three numbers a command: the variables and the commands
 pub record ReadsProgram (text : Bytes) (list : List ℕ) (r : ℕ) (list′ : List ℕ) : Type 0 where
-  pub result : r ≡ packed commands (Programs.read-into list text)
-  pub list-after : list′ ≡ lent-after list (mapped list-of (Programs.read-into list text))
+  pub result : r ≡ packed commands (read-program-into list text)
+  pub list-after : list′ ≡ lent-after list (mapped list-of (read-program-into list text))
 
 -- A list written as a text into lent bytes: the bytes
 pub record WritesProgram (list : List ℕ) (text : Bytes) (r : ℕ) (text′ : Bytes) : Type 0 where
-  pub result : r ≡ packed count (Programs.write-into text list)
-  pub text-after : text′ ≡ lent-after text (Programs.write-into text list)
+  pub result : r ≡ packed count (write-program-into text list)
+  pub text-after : text′ ≡ lent-after text (write-program-into text list)
 
 -- A program handed in as A, translated into a lent word: the word's instructions and symbols
 pub record Translates (A : Answer (List Command)) (word : Bytes) (r : ℕ) (word′ : Bytes) : Type 0 where
@@ -44,30 +41,26 @@ pub record RunsSource (A : Answer (List Command)) (numbers : List ℕ) (budget r
 
 -- A machine as it is lent, and where it stands
 abbrev pub lent : ℕ → ℕ → Bytes → List ℕ → Memory
-lent registers capacity store lengths = record { registers = registers; capacity = capacity; store = store; lengths = lengths }
+lent registers capacity store lengths = record { count = registers; capacity = capacity; store = store; lengths = lengths }
 
 abbrev pub stands-at : ℤ → ℕ → Position
 stands-at place steps = record { place = place; steps = steps }
 
--- A word run on a lent machine: rule 10, then 11 to 15
-unfoldable pub run-lent : Memory → Position → ℕ → Bytes → Answer (Outcome W.State)
-run-lent m at budget word = mapped (λ t. run-word (instructions t) m (position at) budget) (checked m (read-word-for (m .registers) word))
-
--- How the run ended, with its steps; and the machine then
-pub record RunsWord (m : Memory) (at : Position) (word : Bytes) (budget r : ℕ)
+-- A word or a table, handed in as A, run on a lent machine: how the run ended, with its steps; and the machine then
+pub record RunsOn (m : Memory) (at : Position) (A : Answer (List Entry)) (budget r : ℕ)
     (store′ : Bytes) (lengths′ : List ℕ) (at′ : Position) : Type 0 where
-  pub result : r ≡ packed ending (run-lent m at budget word)
-  pub store-after : store′ ≡ word-called m at budget word .store
-  pub lengths-after : lengths′ ≡ word-called m at budget word .lengths
-  pub position-after : at′ ≡ word-called m at budget word .run .position
+  pub result : r ≡ packed ending (run-on m (position at) budget A)
+  pub store-after : store′ ≡ answered m at (run-on m (position at) budget A) .store
+  pub lengths-after : lengths′ ≡ answered m at (run-on m (position at) budget A) .lengths
+  pub position-after : at′ ≡ answered m at (run-on m (position at) budget A) .run .position
 
 -- A word read into two lent lists of numbers: the number of instructions
 pub record ReadsWord (word : Bytes) (kinds operands : List ℕ) (r : ℕ) (kinds′ operands′ : List ℕ) : Type 0 where
-  pub result : r ≡ packed count (Words.read-into kinds operands word)
-  pub kinds-after : kinds′ ≡ lent-after kinds (mapped Words.kinds-of (Words.read-into kinds operands word))
-  pub operands-after : operands′ ≡ lent-after operands (mapped Words.operands-of (Words.read-into kinds operands word))
+  pub result : r ≡ packed count (read-word-into kinds operands word)
+  pub kinds-after : kinds′ ≡ lent-after kinds (mapped Words.kinds-of (read-word-into kinds operands word))
+  pub operands-after : operands′ ≡ lent-after operands (mapped Words.operands-of (read-word-into kinds operands word))
 
 -- A table of two lists written as a word: the number of symbols
 pub record WritesWord (table : List Entry) (word : Bytes) (r : ℕ) (word′ : Bytes) : Type 0 where
-  pub result : r ≡ packed count (Words.write-into word table)
-  pub word-after : word′ ≡ lent-after word (Words.write-into word table)
+  pub result : r ≡ packed count (write-word-into word table)
+  pub word-after : word′ ≡ lent-after word (write-word-into word table)

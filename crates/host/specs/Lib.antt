@@ -1,4 +1,2 @@
-pub mod Packed
-pub mod Answered
 pub mod States
 pub mod Entries

@@ -8,8 +8,8 @@ use Rattle.theory.specs.Limits.{state-values, state-passes}
 use Rattle.theory.specs.ProgramText.{Command}
 use Rattle.theory.specs.Runs.{Outcome}
 use Rattle.theory.specs.Source as S
-use Rattle.theory.specs.TurnedDown.{Answer, done, refused}
-use Rattle.source.specs.Answers.{run-from, state-by}
+use Rattle.theory.specs.TurnedDown.{Answer, done, refused, run-from}
+use Rattle.source.specs.Answers.{source-state, state-by}
 use Rattle.source.specs.declared.State.{State}
 
 abbrev pub state-numbers : ℕ
@@ -32,7 +32,10 @@ numbers-of s = s .capacity ∷ s .line ∷ s .steps ∷ (s .values ++ s .passes)
 
 -- A program run from the numbers lent: another number of them is rule 9, as what they say is
 unfoldable pub run-numbers : List ℕ → ℕ → List Command → Answer (Outcome S.State)
-run-numbers l budget p = cond (eqb (length l) state-numbers) (run-from (state-of l) budget p) (refused (record { number = 9; place = 0 }))
+run-numbers l budget p =
+    cond (eqb (length l) state-numbers)
+    (run-from (source-state (state-of l)) budget p)
+    (refused (record { number = 9; place = 0 }))
 
 -- The numbers afterwards; on a refusal they are as they were
 unfoldable pub numbers-by : List ℕ → Answer (Outcome S.State) → List ℕ

@@ -1,15 +1,14 @@
-// The library for the tablets' host: entries on numbers and slices, to be called from C by include/mudzkvopi.h. Each entry hands its arguments
-// on to the crate that does the work, and packs what comes back into one number.
-mod packing;
+// The library for the tablets' host: entries on numbers and slices, to be called from C by include/mudzkvopi.h. Each entry hands its
+// arguments on to the crate that does the work, and packs what comes back into one number.
 mod states;
 
-use machine::Machine;
-use machine::Position;
+use memory::Machine;
+use memory::Position;
 ghost use mathlib.Core.Path.{_≡_};
-ghost use Rattle.theory.specs.TurnedDown.{read-text, read-list};
+ghost use Rattle.theory.specs.TurnedDown.{read-text, read-list, read-word-for, read-table-for};
 ghost use Rattle.word.specs.Answers.{zipped};
 ghost use Rattle.host.specs.Entries.{ReadsProgram, WritesProgram, Translates, RunsSource};
-ghost use Rattle.host.specs.Entries.{ReadsWord, WritesWord, RunsWord, lent, stands-at};
+ghost use Rattle.host.specs.Entries.{ReadsWord, WritesWord, RunsOn, lent, stands-at};
 
 // The version of these entries.
 #[no_mangle]
@@ -114,8 +113,8 @@ pub extern "C" fn mudzkvopi_run_word(
     word: &[u8],
     budget: u32,
 ) -> u64
-    ensures { λ r. ⌜ RunsWord (lent registers capacity (now (store .entry)) (now (lengths .entry)))
-        (stands-at (now (place .entry)) (now (steps .entry))) (now (word .entry)) budget
+    ensures { λ r. ⌜ RunsOn (lent registers capacity (now (store .entry)) (now (lengths .entry)))
+        (stands-at (now (place .entry)) (now (steps .entry))) (read-word-for registers (now (word .entry))) budget
         r (now (store .exit)) (now (lengths .exit)) (stands-at (now (place .exit)) (now (steps .exit))) ⌝ }
 {
     let m = Machine {
@@ -126,10 +125,44 @@ pub extern "C" fn mudzkvopi_run_word(
         place: *place,
         steps: *steps,
     };
-    let run = machine::run(m, &mut *store, &mut *lengths, at, word, budget);
+    let run = machine::run_word(m, &mut *store, &mut *lengths, at, word, budget);
     let there = run.position.place;
     let ended = run.ended;
     *place = there;
     *steps = run.position.steps;
+    packing::word_ended(ended)
+}
+
+// Kinds and operands run so: rule 10, then 11, 13, 14 and 15 as for tables.
+#[no_mangle]
+pub extern "C" fn mudzkvopi_run_table(
+    registers: u32,
+    capacity: u32,
+    store: &mut [u8],
+    lengths: &mut [u16],
+    place: &mut i32,
+    steps: &mut u32,
+    kinds: &[u8],
+    operands: &[u32],
+    budget: u32,
+) -> u64
+    ensures { λ r. ⌜ RunsOn (lent registers capacity (now (store .entry)) (now (lengths .entry)))
+        (stands-at (now (place .entry)) (now (steps .entry)))
+        (read-table-for registers (zipped (now (kinds .entry)) (now (operands .entry)))) budget
+        r (now (store .exit)) (now (lengths .exit)) (stands-at (now (place .exit)) (now (steps .exit))) ⌝ }
+{
+    let m = Machine {
+        registers: registers as usize,
+        capacity: capacity as usize,
+    };
+    let at = Position {
+        place: *place,
+        steps: *steps,
+    };
+    let ran = engine::run_numbers(m, &mut *store, &mut *lengths, at, kinds, operands, budget);
+    let there = ran.position.place;
+    let ended = ran.ended;
+    *place = there;
+    *steps = ran.position.steps;
     packing::word_ended(ended)
 }

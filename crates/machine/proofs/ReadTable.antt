@@ -1,7 +1,7 @@
--- A table gathered into numbers: what comes of it, rule by rule.
+-- A table judged, and one gathered into numbers: what comes of it, rule by rule.
 use mathlib.Core.Path.{_≡_, refl, sym, ap, _∙_}
-use mathlib.Core.Bool.{true, false}
-use mathlib.Core.Option.{Option, none, some}
+use mathlib.Core.Bool.{Bool, true, false}
+use mathlib.Core.Option.{none, some}
 use mathlib.Core.List.{List}
 use Prim.Native.Nat.{ℕ, _≤_}
 use native.Mathlib.Omega.{arith}
@@ -9,32 +9,17 @@ use lib.ListN.{length, take, drop, length-append, length-map}
 use lib.Seq.{take-at}
 use Rattle.theory.specs.Word.{Entry}
 use Rattle.theory.specs.Machines.{Memory, is-memory}
-use Rattle.theory.specs.TurnedDown.{answer, done, read-table, read-table-for, table-fault, rule-10, lent-after}
+use Rattle.theory.specs.TurnedDown.{answer, done, refused, read-table, read-table-for, table-fault, rule-10, lent-after, for-machine}
 use Rattle.theory.specs.declared.Refusal.{Refusal}
 use Rattle.word.specs.declared.answers.Gathered.{Gathered}
-use Rattle.word.specs.declared.answers.Read.the-variants as R
 use Rattle.word.specs.Answers.{kinds-of, operands-of, read-answer, gathered, no-numbers}
-use Rattle.machine.specs.declared.answers.Position.{Position}
-use Rattle.machine.specs.Calls.{called, turned-down, table-called, table-for}
+use Rattle.memory.specs.declared.answers.Position.{Position}
+use Rattle.memory.specs.Calls.{called, handed, refused-at, after-10, table-called}
 
 module _ (t : List Entry) (g : Gathered) (is : g ≡ gathered t) where
-  answers : g .answer ≡ read-answer (answer (table-fault t) t)
-  unfolding gathered read-table
-  answers = ap (λ (x : Gathered). x .answer) is
-
-  pub got-refused : (x : Refusal) → g .answer ≡ R.Refused x → table-fault t ≡ some x
-  got-refused x e = go (table-fault t) (sym e ∙ answers)
-    where
-      go : (f : Option Refusal) → R.Refused x ≡ read-answer (answer f t) → f ≡ some x
-      go none z = let y : _≡_ {A = ℕ} 0 1 = cc in absurd (omega arith)
-      go (some x′) z = cc
-
-  pub got-done : (n : ℕ) → g .answer ≡ R.Done n → (table-fault t ≡ none) × (n ≡ length t)
-  got-done n e = go (table-fault t) (sym e ∙ answers)
-    where
-      go : (f : Option Refusal) → R.Done n ≡ read-answer (answer f t) → (f ≡ none) × (n ≡ length t)
-      go none z = (refl, cc)
-      go (some x) z = let y : _≡_ {A = ℕ} 0 1 = cc in absurd (omega arith)
+  pub gathered-answer : g .answer ≡ read-answer (read-table t)
+  unfolding gathered
+  gathered-answer = ap (λ (x : Gathered). x .answer) is
 
   module _ (none-faulty : table-fault t ≡ none) (n : ℕ) (size-is : n ≡ length t) where
     kinds-are : g .kinds ≡ lent-after no-numbers (done (kinds-of t))
@@ -72,17 +57,13 @@ module _ (t : List Entry) (g : Gathered) (is : g ≡ gathered t) where
               (λ e. e .operand),
         ))
 
--- The answers of a run of a table
-
-module _ (m : Memory) (p : Position) (budget : ℕ) (t : List Entry) where
-  pub no-memory : is-memory m ≡ false → table-called m p budget t ≡ turned-down m p (record { number = 10; place = 0 })
-  unfolding table-called rule-10
-  no-memory h = rw h
-
-  pub table-refused : is-memory m ≡ true → (r : Refusal) → table-fault t ≡ some r → table-called m p budget t ≡ turned-down m p r
-  unfolding table-called rule-10 read-table-for
-  table-refused h r f = rw (h, f)
-
-  pub table-read : is-memory m ≡ true → table-fault t ≡ none → table-called m p budget t ≡ called m p budget (table-for (m .registers) t)
-  unfolding table-called rule-10 read-table-for table-for
-  table-read h f = rw (h, f)
+-- The answer of a run of a table that a rule after 10 turns down
+pub table-refused : (m : Memory) (p : Position) (budget : ℕ) (t : List Entry) (r : Refusal) → table-fault t ≡ some r
+    → table-called m p budget t ≡ handed (refused-at p (after-10 m r)) (m .store) (m .lengths)
+unfolding table-called read-table-for rule-10
+table-refused m p budget t r f = rw f (go (is-memory m) refl)
+  where
+    go : (b : Bool) → is-memory m ≡ b → called m p budget (for-machine m (refused r)) ≡ handed (refused-at p (after-10 m r)) (m .store)
+        (m .lengths)
+    go true h = rw h
+    go false h = rw h

@@ -1,6 +1,6 @@
 -- A word read into two arrays that have room for every word: what comes of it, rule by rule.
 use mathlib.Core.Path.{_≡_, refl, sym, ap, _∙_}
-use mathlib.Core.Bool.{true, false}
+use mathlib.Core.Bool.{Bool, true, false}
 use mathlib.Core.Option.{Option, none, some}
 use mathlib.Core.List.{List, [], _∷_}
 use Prim.Native.Nat.{ℕ, _≤_}
@@ -9,37 +9,35 @@ use borrow.Author.Tests.{leb-true, le-leb}
 use lib.Dec.{leb}
 use lib.ListN.{length, take, length-map}
 use lib.Seq.{take-at}
+use Rattle.theory.specs.TurnedDown.{entries-fault}
+use Rattle.theory.specs.TurnedDown.{entry-fault, next-byte, for-machine}
 use Rattle.theory.specs.Text.{Bytes}
-use Rattle.theory.specs.Limits
 use Rattle.theory.specs.Basics.{or-else}
 use Rattle.theory.specs.Word.{Entry, byte-of, bytes-of, spell-entries}
 use Rattle.theory.specs.Machines.{Memory, is-memory}
-use Rattle.theory.specs.TurnedDown.{done, answer, after, total, word-fault, word-entries, read-word}
+use Rattle.theory.specs.TurnedDown.{done, refused, answer, after, total, word-fault, word-entries, read-word, read-word-into}
 use Rattle.theory.specs.TurnedDown.{rule-10, rule-11, rule-12, rule-13, rule-14, rule-19, read-word-for, lent-after}
 use Rattle.theory.specs.declared.Refusal.{Refusal}
 use Rattle.theory.proofs.Faults.{and-second, and-first, none-first, none-second, none-refused, unless-none}
 use Rattle.theory.proofs.Words.{GoodTable, formed-of-word, total-length, word-round-trip}
 use Rattle.word.specs.declared.answers.Read.{Read}
 use Rattle.word.specs.declared.answers.Read.the-variants as R
-use Rattle.word.specs.Answers.{kinds-of, operands-of, zipped, read-answer, read-into, Reads}
-use Rattle.machine.specs.declared.answers.Position.{Position}
-use Rattle.machine.specs.Calls.{called, turned-down, word-called, word-for}
-
-pub zipped-of : (t : List Entry) → zipped (kinds-of t) (operands-of t) ≡ t
-unfolding zipped
-zipped-of [] = refl
-zipped-of (e ∷ t) = ap {B = List Entry} (λ l. e ∷ l) (zipped-of t)
+use Rattle.word.specs.Answers.{kinds-of, operands-of, zipped, read-answer, Reads}
+use Rattle.word.proofs.Gathers.{zipped-self}
+use Rattle.memory.specs.declared.answers.Position.{Position}
+use Rattle.memory.specs.Calls.{called, handed, refused-at, after-10, word-called}
+use Rattle.machine.specs.ByByte.{word-for}
 
 -- The entries of a word that rules 11 to 14 let pass are a table that rules 11, 13 and 14 let pass
 module _ (w : Bytes) (h : word-fault w ≡ none) where
   abbrev t : List Entry
   t = word-entries w
 
-  after-11 : or-else (rule-12 w) (or-else (rule-13 t) (rule-14 t)) ≡ none
+  after-11 : or-else (rule-12 w) (entries-fault t) ≡ none
   unfolding word-fault
   after-11 = none-second (rule-11 w) _ h
 
-  after-12 : or-else (rule-13 t) (rule-14 t) ≡ none
+  after-12 : entries-fault t ≡ none
   after-12 = none-second (rule-12 w) _ after-11
 
   limited : (1 ≤ length w) × (length w ≤ 600000)
@@ -63,14 +61,20 @@ module _ (w : Bytes) (h : word-fault w ≡ none) where
   word-good = record {
     some = some-entry t (omega (arith, size, limited .0));
     symbols = omega (arith, size, limited .1);
-    formed = formed-of-word 0 t (none-refused _ 13 (none-first (rule-13 t) _ after-12));
-    instructions = leb-true (length t) 8192 (unless-none _ 14 _ (none-second (rule-13 t) (rule-14 t) after-12));
+    formed = formed-of-word 0 t (none-refused _ 13 (none-first (rule-13 next-byte entry-fault t) _ after-12));
+    instructions = leb-true (length t) 8192 (unless-none _ 14 _ (none-second (rule-13 next-byte entry-fault t) _ after-12));
   }
+
+-- The instructions of a word stand at the front of two lists
+pub record Got (w : Bytes) (n : ℕ) (kinds operands : List ℕ) : Type 0 where
+  pub passes : word-fault w ≡ none
+  pub few : n ≤ 8192
+  pub table : zipped (take n kinds) (take n operands) ≡ word-entries w
 
 -- Arrays of 8,192 have room, so that rule 19 never applies
 module _ (w : Bytes) (kinds operands : List ℕ) (k : length kinds ≡ 8192) (o : length operands ≡ 8192) where
-  read-is : read-into kinds operands w ≡ read-word w
-  unfolding read-into read-word rule-19
+  read-is : read-word-into kinds operands w ≡ read-word w
+  unfolding read-word-into read-word rule-19
   read-is = go (word-fault w) refl
     where
       go : (f : Option Refusal) → word-fault w ≡ f
@@ -95,42 +99,53 @@ module _ (w : Bytes) (kinds operands : List ℕ) (k : length kinds ≡ 8192) (o 
         go none z = let y : _≡_ {A = ℕ} 0 1 = cc in absurd (omega arith)
         go (some x′) z = cc
 
-    pub got-done : (n : ℕ) → r ≡ R.Done n → (word-fault w ≡ none) × (n ≡ length (word-entries w))
-    got-done n e = go (word-fault w) (sym e ∙ answers)
+    done-then : (n : ℕ) → r ≡ R.Done n → (word-fault w ≡ none) × (n ≡ length (word-entries w))
+    done-then n e = go (word-fault w) (sym e ∙ answers)
       where
         go : (f : Option Refusal) → R.Done n ≡ read-answer (answer f (word-entries w)) → (f ≡ none) × (n ≡ length (word-entries w))
         go none z = (refl, cc)
         go (some x) z = let y : _≡_ {A = ℕ} 0 1 = cc in absurd (omega arith)
 
     module _ (none-faulty : word-fault w ≡ none) (n : ℕ) (size-is : n ≡ length (word-entries w)) where
-      into-is : read-into kinds operands w ≡ done (word-entries w)
+      into-is : read-word-into kinds operands w ≡ done (word-entries w)
       unfolding read-word
       into-is = read-is ∙ rw none-faulty
 
-      pub got-kinds : take n kinds′ ≡ kinds-of (word-entries w)
+      kinds-read : take n kinds′ ≡ kinds-of (word-entries w)
       unfolding lent-after
-      got-kinds =
+      kinds-read =
           rw (h .1, into-is)
           (take-at (kinds-of (word-entries w)) _ n (length-map (word-entries w) (λ e. e .kind) ∙ sym size-is))
 
-      pub got-operands : take n operands′ ≡ operands-of (word-entries w)
+      operands-read : take n operands′ ≡ operands-of (word-entries w)
       unfolding lent-after
-      got-operands =
+      operands-read =
           rw (h .2, into-is)
           (take-at (operands-of (word-entries w)) _ n (length-map (word-entries w) (λ e. e .operand) ∙ sym size-is))
+
+    pub got-done : (n : ℕ) → r ≡ R.Done n → Got w n kinds′ operands′
+    got-done n e =
+        let d = done-then n e in
+        record {
+          passes = d .0;
+          few = omega (arith, d .1, word-good w (d .0) .instructions);
+          table = rw (kinds-read (d .0) n (d .1), operands-read (d .0) n (d .1)) (zipped-self (word-entries w));
+        }
 
 -- The answers of a run of a word
 
 module _ (m : Memory) (p : Position) (budget : ℕ) (w : Bytes) where
-  pub no-memory : is-memory m ≡ false → word-called m p budget w ≡ turned-down m p (record { number = 10; place = 0 })
-  unfolding word-called rule-10
-  no-memory h = rw h
-
-  pub word-refused : is-memory m ≡ true → (r : Refusal) → word-fault w ≡ some r → word-called m p budget w ≡ turned-down m p r
+  pub word-refused : (r : Refusal) → word-fault w ≡ some r
+      → word-called m p budget w ≡ handed (refused-at p (after-10 m r)) (m .store) (m .lengths)
   unfolding word-called rule-10 read-word-for
-  word-refused h r f = rw (h, f)
+  word-refused r f = rw f (go (is-memory m) refl)
+    where
+      go : (b : Bool) → is-memory m ≡ b → called m p budget (for-machine m (refused r)) ≡ handed (refused-at p (after-10 m r)) (m .store)
+          (m .lengths)
+      go true h = rw h
+      go false h = rw h
 
-  pub word-read : is-memory m ≡ true → word-fault w ≡ none
-      → word-called m p budget w ≡ called m p budget (word-for (m .registers) (word-entries w))
-  unfolding word-called rule-10 read-word-for word-for
-  word-read h f = rw (h, f)
+  pub word-read : word-fault w ≡ none
+      → word-called m p budget w ≡ called m p budget (for-machine m (word-for (m .count) (word-entries w)))
+  unfolding word-called read-word-for word-for
+  word-read f = rw f

@@ -1,46 +1,81 @@
-// The text register machine of document 01, "Machines of the set": runs of a word or a table on a lent store, one step, and the value.
-mod answers;
-mod effect;
-mod inside;
-mod lacking;
-mod memory;
-mod order;
-mod store;
-
-pub use answers::Ended;
-pub use answers::Machine;
-pub use answers::Position;
-pub use answers::Run;
-pub use answers::Value;
+// The text register machine of document 01, "Machines of the set": runs of a word or of a table of records on a lent store, and one step.
 ghost use mathlib.Core.Path.{_≡_};
+ghost use mathlib.Core.Option.{none};
 ghost use mathlib.Core.List.{List};
+ghost use Prim.Native.Nat.{_≤_};
+ghost use lib.ListN.{length, take};
 ghost use Rattle.theory.specs.Word.{Entry};
+ghost use Rattle.theory.specs.TurnedDown.{total, table-fault, for-machine};
 ghost use Rattle.word.specs.Answers.{zipped, gathered, entries-of};
-ghost use Rattle.machine.specs.Calls.{memory, handed, called, word-called, table-called, word-for, table-for};
-ghost use Rattle.machine.specs.Calls.{refused-at, Readable, Valued, moved-to};
-use crate::inside::run_numbers;
-use crate::lacking::Lack;
-use crate::lacking::first_lacking;
-use crate::lacking::start_of;
-use crate::memory::is_memory;
-use crate::store::wide;
+ghost use Rattle.memory.specs.Calls.{memory, handed, called, word-called, table-called, refused-at, after-10, moved-to};
+ghost use Rattle.machine.specs.ByByte.{word-for, by-byte, Paired};
+use memory::Ended;
+use memory::Machine;
+use memory::Position;
+use memory::Run;
+use memory::is_memory;
 use theory::Refusal;
 use word::Gathered;
 use word::Instruction;
 use word::Read;
 
-// A call that a rule turns down.
-fn turned_down(at: Position, number: u32, place: usize) -> Run
-    ensures { λ r. ⌜ r ≡ refused-at at (record { number = number; place = place }) ⌝ }
+// A call that a rule after 10 turns down: rule 10 goes before.
+fn turned_down(m: Machine, store: &[u8], lengths: &[u16], at: Position, r: Refusal) -> Run
+    ensures { λ x. ⌜ x ≡ refused-at at (after-10 (memory m (now (store .entry)) (now (lengths .entry))) r) ⌝ }
 {
+    if is_memory(m, store, lengths) {
+        return Run {
+            position: at,
+            ended: Ended::Refused(r),
+        };
+    }
     Run {
         position: at,
-        ended: Ended::Refused(Refusal { number, place }),
+        ended: Ended::Refused(Refusal {
+            number: 10,
+            place: 0,
+        }),
     }
 }
 
-// A run of a word's instructions, which rules 11 to 14 let pass: rule 15, whose place is a byte.
-fn run_word(
+// Where instruction n starts in the word, counted from 0: all symbols of those before it.
+fn start_of(kinds: &[u8], operands: &[u32], n: usize) -> usize
+    requires { ⌜ (length (now kinds) ≡ length (now operands)) × (n ≤ length (now kinds)) × (length (now kinds) ≤ 8192) ⌝ }
+    ensures { λ r. ⌜ r ≡ total (take n (zipped (now (kinds .entry)) (now (operands .entry)))) ⌝ }
+{
+    let mut i: usize = 0;
+    let mut start: usize = 0;
+    while i < n {
+        start += operands[i] as usize + kinds[i] as usize;
+        i += 1;
+    }
+    start
+}
+
+// A refusal of a table, as that of the word which the table spells: the place of rule 15 is a byte.
+fn by_byte(r: Refusal, kinds: &[u8], operands: &[u32]) -> Refusal
+    requires { ⌜ Paired (now kinds) (now operands) ⌝ }
+    ensures { λ x. ⌜ x ≡ by-byte (zipped (now (kinds .entry)) (now (operands .entry))) r ⌝ }
+{
+    let number = r.number;
+    let place = r.place;
+    if number != 15 {
+        return r;
+    }
+    if kinds.len() < place {
+        return Refusal {
+            number: 15,
+            place: start_of(kinds, operands, kinds.len()),
+        };
+    }
+    Refusal {
+        number: 15,
+        place: start_of(kinds, operands, place),
+    }
+}
+
+// Runs a word's instructions, which rules 11 to 14 let pass: rule 10, then 15, whose place is a byte.
+fn run_instructions(
     m: Machine,
     store: &mut [u8],
     lengths: &mut [u16],
@@ -49,40 +84,29 @@ fn run_word(
     operands: &[u32],
     budget: u32,
 ) -> Run
-    requires { ⌜ Readable m (now store) (now lengths) (now kinds) (now operands) ⌝ }
+    requires { ⌜ table-fault (zipped (now kinds) (now operands)) ≡ none ⌝ }
     ensures { λ r. ⌜ handed r (now (store .exit)) (now (lengths .exit))
         ≡ called (memory m (now (store .entry)) (now (lengths .entry))) at budget
-        (word-for (m .registers) (zipped (now (kinds .entry)) (now (operands .entry)))) ⌝ }
+        (for-machine (memory m (now (store .entry)) (now (lengths .entry)))
+        (word-for (m .registers) (zipped (now (kinds .entry)) (now (operands .entry))))) ⌝ }
 {
-    match first_lacking(m.registers, kinds, operands) {
-        Lack::At(i) => turned_down(at, 15, start_of(kinds, operands, i)),
-        Lack::Nothing => run_numbers(m, store, lengths, at, kinds, operands, budget),
-    }
-}
-
-// A run of a table's instructions, which rules 11, 13 and 14 let pass: rule 15, whose place is an entry.
-fn run_entries(
-    m: Machine,
-    store: &mut [u8],
-    lengths: &mut [u16],
-    at: Position,
-    kinds: &[u8],
-    operands: &[u32],
-    budget: u32,
-) -> Run
-    requires { ⌜ Readable m (now store) (now lengths) (now kinds) (now operands) ⌝ }
-    ensures { λ r. ⌜ handed r (now (store .exit)) (now (lengths .exit))
-        ≡ called (memory m (now (store .entry)) (now (lengths .entry))) at budget
-        (table-for (m .registers) (zipped (now (kinds .entry)) (now (operands .entry)))) ⌝ }
-{
-    match first_lacking(m.registers, kinds, operands) {
-        Lack::At(i) => turned_down(at, 15, i),
-        Lack::Nothing => run_numbers(m, store, lengths, at, kinds, operands, budget),
+    let run = engine::run_numbers(m, store, lengths, at, kinds, operands, budget);
+    let position = run.position;
+    let ended = run.ended;
+    match ended {
+        Ended::Ran(end, steps) => Run {
+            position,
+            ended: Ended::Ran(end, steps),
+        },
+        Ended::Refused(r) => Run {
+            position,
+            ended: Ended::Refused(by_byte(r, kinds, operands)),
+        },
     }
 }
 
 // Runs a word on a machine: rules 10, then 11 to 15.
-pub fn run(
+pub fn run_word(
     m: Machine,
     store: &mut [u8],
     lengths: &mut [u16],
@@ -93,13 +117,10 @@ pub fn run(
     ensures { λ r. ⌜ handed r (now (store .exit)) (now (lengths .exit))
         ≡ word-called (memory m (now (store .entry)) (now (lengths .entry))) at budget (now (word .entry)) ⌝ }
 {
-    if !is_memory(m, store, lengths) {
-        return turned_down(at, 10, 0);
-    }
-    let mut kinds = [0u8; 8192];
-    let mut operands = [0u32; 8192];
+    let mut kinds = [0u8; Instruction::INSTRUCTIONS];
+    let mut operands = [0u32; Instruction::INSTRUCTIONS];
     match word::read(word, &mut kinds, &mut operands) {
-        Read::Done(count) => run_word(
+        Read::Done(count) => run_instructions(
             m,
             store,
             lengths,
@@ -108,10 +129,7 @@ pub fn run(
             &operands[..count],
             budget,
         ),
-        Read::Refused(r) => Run {
-            position: at,
-            ended: Ended::Refused(r),
-        },
+        Read::Refused(r) => turned_down(m, store, lengths, at, r),
     }
 }
 
@@ -128,15 +146,12 @@ fn run_gathered(
     ensures { λ r. ⌜ ((t : List Entry) → g ≡ gathered t → handed r (now (store .exit)) (now (lengths .exit))
         ≡ table-called (memory m (now (store .entry)) (now (lengths .entry))) at budget t) ⌝ }
 {
-    if !is_memory(m, store, lengths) {
-        return turned_down(at, 10, 0);
-    }
     let answer = g.answer;
     match answer {
         Read::Done(count) => {
             let kinds = g.kinds;
             let operands = g.operands;
-            run_entries(
+            engine::run_numbers(
                 m,
                 store,
                 lengths,
@@ -146,10 +161,7 @@ fn run_gathered(
                 budget,
             )
         }
-        Read::Refused(r) => Run {
-            position: at,
-            ended: Ended::Refused(r),
-        },
+        Read::Refused(r) => turned_down(m, store, lengths, at, r),
     }
 }
 
@@ -166,20 +178,6 @@ pub fn run_table(
         ≡ table-called (memory m (now (store .entry)) (now (lengths .entry))) at budget (entries-of (now (table .entry))) ⌝ }
 {
     run_gathered(m, store, lengths, at, word::gather(table), budget)
-}
-
-// Register 1, the value of a halted word: rule 10.
-pub fn value(m: Machine, store: &[u8], lengths: &[u16]) -> Value
-    ensures { λ r. ⌜ Valued (memory m (now (store .entry)) (now (lengths .entry))) r ⌝ }
-{
-    if is_memory(m, store, lengths) {
-        Value::Length(wide(lengths[0]))
-    } else {
-        Value::Refused(Refusal {
-            number: 10,
-            place: 0,
-        })
-    }
 }
 
 // The two parts of what a run hands back.
@@ -206,7 +204,7 @@ pub fn step(
     ensures { λ r. ⌜ handed (moved-to (now (at .exit)) r) (now (store .exit)) (now (lengths .exit))
         ≡ word-called (memory m (now (store .entry)) (now (lengths .entry))) (now (at .entry)) 1 (now (word .entry)) ⌝ }
 {
-    let r = run(m, store, lengths, *at, word, 1);
+    let r = run_word(m, store, lengths, *at, word, 1);
     *at = position_of(r);
     ended_of(r)
 }

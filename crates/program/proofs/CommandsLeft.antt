@@ -9,21 +9,21 @@ use borrow.Author.Tests.{leb-true}
 use lib.Dec.{leb}
 use lib.ListN.{length, getD, drop, length-append, length-drop}
 use lib.Seq.{sets}
-use Rattle.theory.specs.Basics.{present}
+use Rattle.theory.specs.Basics.{present, EachOf}
 use Rattle.theory.specs.Text.{Bytes, LF}
 use Rattle.theory.specs.ProgramText.{clear, increment, copy, loop, while, Command, plain, opens, closes, spelling, text-of, numbers}
 use Rattle.theory.specs.ProgramText.{command-of, listed}
 use Rattle.theory.specs.TurnedDown.{rule-1, program-fault, text-fault}
-use Rattle.theory.specs.Claims.{Accepted, EachOf}
+use Rattle.theory.specs.Claims.{Accepted}
 use Rattle.theory.proofs.Faults.{none-first, unless-none}
 use Rattle.theory.proofs.Nesting.{LowIndices, low, nothing-missing}
 use Rattle.theory.proofs.Lists.{numbers-of}
 use Rattle.theory.proofs.Texts.{text-accepted}
-use Rattle.program.specs.Puts.{Put}
-use Rattle.program.specs.Spellings.{command-line}
+use Rattle.text.specs.Puts.{most, Put}
+use Rattle.command.specs.Spellings.{command-line}
 use Rattle.program.proofs.ListCheck.{three-at}
-use Rattle.program.proofs.Puts.{put-then}
-use Rattle.program.proofs.TextWriting.{line-spelled}
+use Rattle.text.proofs.Puts.{put-nothing, put-then}
+use Rattle.command.proofs.Spellings.{line-spelled}
 
 -- The commands from place m of a list on
 pub record Left (l : List ℕ) (m : ℕ) : Type 0 where
@@ -51,17 +51,6 @@ pub record Next (l : List ℕ) (m : ℕ) (r : Left l m) : Type 0 where
   pub later : Left l (m + 3)
   pub split : r .commands ≡ first ∷ later .commands
   pub line : command-line (getD l m 0) (getD l (m + 1) 0) (getD l (m + 2) 0) ≡ spelling first ++ (LF ∷ [])
-  pub index : getD l (m + 1) 0 < 100
-  pub source : getD l (m + 2) 0 < 100
-
-low-numbers : (k i j : ℕ) (c : Command) → numbers c ≡ k ∷ i ∷ j ∷ [] → LowIndices c → (i < 100) × (j < 100)
-low-numbers k i j (plain (clear a)) e h = let ei : i ≡ a = cc in let ej : j ≡ 0 = cc in (omega arith, omega arith)
-low-numbers k i j (plain (increment a)) e h = let ei : i ≡ a = cc in let ej : j ≡ 0 = cc in (omega arith, omega arith)
-low-numbers k i j (plain (copy a b)) e h = let ei : i ≡ a = cc in let ej : j ≡ b = cc in (omega arith, omega arith)
-low-numbers k i j (opens loop a) e h = let ei : i ≡ a = cc in let ej : j ≡ 0 = cc in (omega arith, omega arith)
-low-numbers k i j (closes loop a) e h = let ei : i ≡ a = cc in let ej : j ≡ 0 = cc in (omega arith, omega arith)
-low-numbers k i j (opens while a) e h = let ei : i ≡ a = cc in let ej : j ≡ 0 = cc in (omega arith, omega arith)
-low-numbers k i j (closes while a) e h = let ei : i ≡ a = cc in let ej : j ≡ 0 = cc in (omega arith, omega arith)
 
 module _ {l : List ℕ} {m : ℕ} where
   pub next : (r : Left l m) → m + 2 < length l → Next l m r
@@ -83,14 +72,11 @@ module _ {l : List ℕ} {m : ℕ} where
       go (c ∷ p) o e f =
           let g : some c ∷ map some p ≡ command-of k i j ∷ listed (drop (m + 3) l) = sym (ap (map some) e) ∙ f in
           let is : command-of k i j ≡ some c = cc in
-          let bounds : (i < 100) × (j < 100) = low-numbers k i j c (numbers-of k i j c is) (o .0) in
           record {
             first = c;
             later = record { commands = p; are = cc; high = o .1 };
             split = e;
             line = line-spelled k i j c (numbers-of k i j c is);
-            index = bounds .0;
-            source = bounds .1;
           }
 
   pub none-left : (r : Left l m) → length l ≤ m + 2 → r .commands ≡ []
@@ -131,6 +117,10 @@ module _ {l : List ℕ} {m size : ℕ} (h : SizeFrom l m size) where
         sum = omega (arith, h .sum, e, ap length (text-next (h .left) x), length-append t (text-of (x .later .commands)));
       }
 
+  pub size-fits : (more : m + 2 < length l) (n : ℕ) → n ≡ length (command-line (getD l m 0) (getD l (m + 1) 0) (getD l (m + 2) 0))
+      → size + n ≤ 16384
+  size-fits more n e = let x = size-next more n e in omega (arith, x .sum, x .short)
+
   pub size-whole : length l ≤ m + 2 → size ≡ length (text-of (present (listed l)))
   unfolding text-of
   size-whole k = omega (arith, h .sum, ap (λ p. length (text-of p)) (none-left (h .left) k))
@@ -138,46 +128,25 @@ module _ {l : List ℕ} {m size : ℕ} (h : SizeFrom l m size) where
 -- What was written so far, and the text of the commands left, is the whole text
 pub record TextFrom (l before after : List ℕ) (m at : ℕ) : Type 0 where
   pub left : Left l m
-  pub room : length (text-of (present (listed l))) ≤ length before
-  pub same : length after ≡ length before
   pub written : Bytes
   pub whole : written ++ text-of (left .commands) ≡ text-of (present (listed l))
   pub put : Put written 0 before after at
 
-pub text-start : (l before : List ℕ) → program-fault (listed l) ≡ none → length (text-of (present (listed l))) ≤ length before
-    → TextFrom l before before 0 0
+pub text-start : (l before : List ℕ) → length before ≤ most → program-fault (listed l) ≡ none → TextFrom l before before 0 0
 unfolding all-left
-text-start l before e h =
-    record { left = all-left l e; room = h; same = refl; written = []; whole = refl; put = record { ended = refl; wrote = refl } }
+text-start l before h e =
+    record { left = all-left l e; written = []; whole = refl; put = put-nothing before 0 (omega arith) h }
 
 module _ {l before after : List ℕ} {m at : ℕ} (h : TextFrom l before after m at) where
   abbrev here : Bytes
   here = command-line (getD l m 0) (getD l (m + 1) 0) (getD l (m + 2) 0)
 
-  pub text-room : m + 2 < length l → at + length here ≤ length after
-  text-room more =
-      let x = next (h .left) more in
-      let rest : Bytes = text-of (x .later .commands) in
-      omega (
-        arith,
-        h .room,
-        h .same,
-        h .put .ended,
-        ap length (h .whole),
-        length-append (h .written) (text-of (h .left .commands)),
-        ap
-            length (text-next (h .left) x),
-        length-append here rest,
-      )
-
-  pub text-more : (more : m + 2 < length l) {after′ : List ℕ} {at′ : ℕ} → length after′ ≡ length after → Put here at after after′ at′
+  pub text-more : (more : m + 2 < length l) {after′ : List ℕ} {at′ : ℕ} → Put here at after after′ at′
       → TextFrom l before after′ (m + 3) at′
-  text-more more e p =
+  text-more more p =
       let x = next (h .left) more in
       record {
         left = x .later;
-        room = h .room;
-        same = omega (arith, e, h .same);
         written = h .written ++ here;
         whole = append-assoc (h .written) here (text-of (x .later .commands)) ∙ rw (← text-next (h .left) x) (h .whole);
         put = put-then (h .put) p;

@@ -9,8 +9,9 @@ use borrow.Author.Tests.{le-leb, lt-leb}
 use lib.ListN.{length, getD, drop, length-drop, drop-of-length-le}
 use lib.Seq.{drop-cons}
 use Rattle.theory.specs.Basics.{present}
+use Rattle.theory.specs.ProgramText as P
 use Rattle.theory.specs.ProgramText.{Command, variables, command-of, listed}
-use Rattle.theory.specs.TurnedDown.{Open, rule-3, line-fault, lines-fault, program-fault, read-list}
+use Rattle.theory.specs.TurnedDown.{rule-3, line-fault, lines-fault, program-fault, read-list}
 use Rattle.theory.specs.declared.Refusal.{Refusal}
 use Rattle.program.specs.declared.Checked.the-variants.{Accepted, Refused}
 use Rattle.program.specs.declared.nest.Nest.{Nest}
@@ -126,7 +127,7 @@ module _ (l : List ℕ) (n K : ℕ) (s : Nest) (h : SoFar l n K s) where
       nothing-left : drop (3 * n) l ≡ []
       nothing-left = drop-of-length-le l all
 
-      go : (os : List Open) → lines-fault 1 [] (listed l) ≡ lines-fault (n + 1) os []
+      go : (os : List P.Opening) → lines-fault 1 [] (listed l) ≡ lines-fault (n + 1) os []
           → at-end (record { lines = n; variables = K }) os ≡ checked (read-list l)
       go [] e =
           accepted-as l short n K e (omega (arith, h .commands, ap (λ u. length (present (listed u))) nothing-left))

@@ -10,9 +10,10 @@ use borrow.Author.Tests.{ltb-true, eqb-true, lt-leb, le-leb, eq-eqb, ne-eqb}
 use lib.Dec.{eqb, ltb}
 use lib.ListN.{length, getD, set}
 use lib.Seq.{getD-set-same, getD-set-other}
+use Rattle.theory.specs.ProgramText as P
 use Rattle.theory.specs.ProgramText.{Plain, clear, increment, copy, Kind, loop, while, Command, plain, opens, closes, indices, above}
 use Rattle.theory.specs.ProgramText.{command-of}
-use Rattle.theory.specs.TurnedDown.{Open, unless, same-kind, pair-fault, line-fault}
+use Rattle.theory.specs.TurnedDown.{unless, same-kind, pair-fault, line-fault}
 use Rattle.theory.specs.declared.Refusal.{Refusal}
 use Rattle.theory.proofs.Nesting.{few-open, one-open}
 use Rattle.program.specs.declared.nest.Opening.{Opening}
@@ -32,7 +33,7 @@ alike-while false = refl
 
 -- The stack
 
-abbrev open-of : Opening → Open
+abbrev open-of : Opening → P.Opening
 open-of o = record { line = o .line; kind = kind-of (o .kind); index = o .index }
 
 pub length-innermost : (n : ℕ) (l : List Opening) → length (innermost n l) ≡ n
@@ -44,7 +45,7 @@ pub innermost-last : (n : ℕ) (l : List Opening) → 0 < n → innermost n l �
 unfolding innermost
 innermost-last n l h =
     let e : n ≡ suc (n - 1) = omega arith in
-    ap {B = List Open} (λ k. innermost k l) e
+    ap {B = List P.Opening} (λ k. innermost k l) e
 
 innermost-set : (n i : ℕ) (l : List Opening) (o : Opening) → n ≤ i → innermost n (set l i o) ≡ innermost n l
 unfolding innermost
@@ -54,7 +55,7 @@ innermost-set (suc n) i l o h = rw (getD-set-other l i n o nothing (λ e. omega 
 pub innermost-push : (n : ℕ) (l : List Opening) (o : Opening) → n < length l → innermost (n + 1) (set l n o) ≡ open-of o ∷ innermost n l
 unfolding innermost
 innermost-push n l o h =
-    ap {B = List Open} (λ k. innermost k (set l n o)) (add-one n)
+    ap {B = List P.Opening} (λ k. innermost k (set l n o)) (add-one n)
     ∙ rw (getD-set-same l n o nothing h, innermost-set n n l o (omega arith))
 
 -- A line that closes a pair
@@ -177,7 +178,7 @@ kind-7 k i j e h = let t : eqb j 0 ≡ true = rw e at h in rw (e, t)
 
 -- The verdict on a command, rule by rule
 
-module _ (n : ℕ) (os : List Open) (k i j : ℕ) where
+module _ (n : ℕ) (os : List P.Opening) (k i j : ℕ) where
   abbrev verdict : Judged
   verdict = judgement (line-fault n os (command-of k i j))
 
@@ -207,14 +208,14 @@ module _ (n : ℕ) (os : List Open) (k i j : ℕ) where
 
 -- A command that passed
 
-pub passed-known : (n : ℕ) (os : List Open) (k i j : ℕ) → line-fault n os (command-of k i j) ≡ none → is-known k j ≡ true
+pub passed-known : (n : ℕ) (os : List P.Opening) (k i j : ℕ) → line-fault n os (command-of k i j) ≡ none → is-known k j ≡ true
 passed-known n os k i j h = go (is-known k j) refl
   where
     go : (b : Bool) → is-known k j ≡ b → is-known k j ≡ true
     go true e = e
     go false e = absurd (Option·none-ne-some _ (sym (rw (unknown k i j e) at h)))
 
-passed-open : (n : ℕ) (os : List Open) (k : Kind) (i : ℕ) → line-fault n os (some (closes k i)) ≡ none → 0 < length os
+passed-open : (n : ℕ) (os : List P.Opening) (k : Kind) (i : ℕ) → line-fault n os (some (closes k i)) ≡ none → 0 < length os
 passed-open n [] k i h = absurd (one-open n k i h)
 passed-open n (o ∷ os) k i h = omega arith
 

@@ -9,6 +9,7 @@ use borrow.Author.Tests.{lt-leb, le-leb}
 use lib.Dec.{eqb}
 use lib.ListN.{length, take, drop}
 use lib.Seq.{sets, length-take-le}
+use Rattle.theory.specs.TurnedDown.{read-program-into, write-program-into}
 use Rattle.theory.specs.Text.{Bytes, ends-in-LF}
 use Rattle.theory.specs.Basics.{present}
 use Rattle.theory.specs.ProgramText.{Command, list-of, text-of, listed}
@@ -21,10 +22,10 @@ use Rattle.program.specs.declared.Checked.{Checked}
 use Rattle.program.specs.declared.Written.{Written}
 use Rattle.program.specs.declared.Checked.the-variants as C
 use Rattle.program.specs.declared.Written.the-variants as W
-use Rattle.program.specs.Answers.{program-of, checked, read-into, written, write-into}
+use Rattle.program.specs.Answers.{program-of, checked, written}
 use Rattle.program.specs.Lines.{Lined}
-use Rattle.program.specs.Puts.{Put}
-use Rattle.program.proofs.Puts.{sets-front}
+use Rattle.text.specs.Puts.{Put}
+use Rattle.text.proofs.Puts.{sets-front}
 use Rattle.program.proofs.TextCheck.{refused-2, past-2, refused-3}
 
 -- A check read back
@@ -39,27 +40,27 @@ checked-accepted (refused r) e f = let z : _≡_ {A = ℕ} 0 1 = cc in absurd (o
 
 -- What `read` promises
 abbrev pub Reads : Bytes → List ℕ → Checked → List ℕ → Type 0
-Reads t lent c out = (c ≡ checked (read-into lent t)) × (out ≡ lent-after lent (mapped list-of (read-into lent t)))
+Reads t lent c out = (c ≡ checked (read-program-into lent t)) × (out ≡ lent-after lent (mapped list-of (read-program-into lent t)))
 
 module _ (t : Bytes) (lent : List ℕ) where
-  unread : (r : Refusal) → read-into lent t ≡ refused r → Reads t lent (C.Refused r) lent
+  unread : (r : Refusal) → read-program-into lent t ≡ refused r → Reads t lent (C.Refused r) lent
   unfolding lent-after
   unread r e = (rw e, rw e)
 
   pub reads-refused : (r : Refusal) → read-text t ≡ refused r → Reads t lent (C.Refused r) lent
-  unfolding read-into
+  unfolding read-program-into
   reads-refused r e = unread r (rw e)
 
   module _ (l : List ℕ) (p : List Command) (e : read-text t ≡ done p) (f : list-of p ≡ l) where
     pub reads-no-room : length lent < length l → Reads t lent (C.Refused (record { number = 19; place = 0 })) lent
-    unfolding read-into rule-19
+    unfolding read-program-into rule-19
     reads-no-room h = unread _ (rw (e, f, lt-leb (length l) (length lent) h))
 
     pub reads-done : length l ≤ length lent → (q : Program) (out : List ℕ) → q ≡ program-of p → out ≡ l ++ drop (length l) lent
         → Reads t lent (C.Accepted q) out
-    unfolding read-into rule-19 lent-after
+    unfolding read-program-into rule-19 lent-after
     reads-done h q out g k =
-        let d : read-into lent t ≡ done p = rw (e, f, le-leb (length l) (length lent) h) in
+        let d : read-program-into lent t ≡ done p = rw (e, f, le-leb (length l) (length lent) h) in
         (rw (d, g), rw (d, k, f))
 
 -- A text of at most 16,384 bytes whose lines were read into numbers
@@ -102,15 +103,15 @@ module _ (t : Bytes) (lent numbers : List ℕ) (lines : ℕ) (d : Lined t number
 
 -- What `write` promises
 abbrev pub Writes : List ℕ → List ℕ → Written → List ℕ → Type 0
-Writes l lent w out = (w ≡ written (write-into lent l)) × (out ≡ lent-after lent (write-into lent l))
+Writes l lent w out = (w ≡ written (write-program-into lent l)) × (out ≡ lent-after lent (write-program-into lent l))
 
 module _ (l lent : List ℕ) {c : Checked} (k : c ≡ checked (read-list l)) where
-  unwritten : (r : Refusal) → write-into lent l ≡ refused r → Writes l lent (W.Refused r) lent
+  unwritten : (r : Refusal) → write-program-into lent l ≡ refused r → Writes l lent (W.Refused r) lent
   unfolding lent-after
   unwritten r e = (rw e, rw e)
 
   pub writes-fault : {r : Refusal} → c ≡ C.Refused r → Writes l lent (W.Refused r) lent
-  unfolding write-into
+  unfolding write-program-into
   writes-fault {r} f = unwritten r (rw (checked-refused (read-list l) k f))
 
   module _ {q : Program} (f : c ≡ C.Accepted q) where
@@ -128,12 +129,12 @@ module _ (l lent : List ℕ) {c : Checked} (k : c ≡ checked (read-list l)) whe
 
     module _ (n : ℕ) (size : n ≡ length text) where
       pub writes-no-room : length lent < n → Writes l lent (W.Refused (record { number = 19; place = 0 })) lent
-      unfolding write-into rule-19
+      unfolding write-program-into rule-19
       writes-no-room h = unwritten _ (rw (commands .1, lt-leb (length text) (length lent) (rw size at h)))
 
       pub writes-done : n ≤ length lent → (out : List ℕ) → out ≡ sets lent 0 text → Writes l lent (W.Done n) out
-      unfolding write-into rule-19 lent-after
+      unfolding write-program-into rule-19 lent-after
       writes-done h out e =
           let room : length text ≤ length lent = rw size at h in
-          let d : write-into lent l ≡ done text = rw (commands .1, le-leb (length text) (length lent) room) in
+          let d : write-program-into lent l ≡ done text = rw (commands .1, le-leb (length text) (length lent) room) in
           (rw (d, size), rw (d, e) (sets-front lent text room))

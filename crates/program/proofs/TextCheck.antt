@@ -10,14 +10,16 @@ use lib.Dec.{leb, eqb}
 use lib.ListN.{length, getD, length-map}
 use Rattle.theory.specs.Basics.{or-else, present}
 use Rattle.theory.specs.Text.{Bytes, split-lines, ends-in-LF}
+use Rattle.theory.specs.ProgramText as P
 use Rattle.theory.specs.ProgramText.{clear, increment, copy, loop, while, Command, plain, opens, closes, indices, above, command}
 use Rattle.theory.specs.ProgramText.{command-of, listed}
-use Rattle.theory.specs.TurnedDown.{refused, answer, Open, rule-1, rule-2, rule-3, line-fault, open-next, lines-fault}
+use Rattle.theory.specs.TurnedDown.{refused, answer, rule-1, rule-2, rule-3, line-fault, open-past, lines-fault}
 use Rattle.theory.specs.TurnedDown.{program-fault}
 use Rattle.theory.specs.TurnedDown.{text-lines, text-fault, read-text, read-list}
 use Rattle.theory.specs.declared.Refusal.{Refusal}
 use Rattle.theory.proofs.Nesting.{indexed, first-line, next-lines, faultless}
-use Rattle.program.specs.Lines.{limited, numbered, all-numbers}
+use Rattle.command.specs.Lines.{limited, numbered}
+use Rattle.program.specs.Lines.{all-numbers}
 
 -- A command with its indices limited
 abbrev capped : Command → Command
@@ -65,7 +67,7 @@ capped-high (closes k i) h = omega arith
 
 -- The verdict on a line does not change, and a line that passes does not change at all
 
-line-capped : (n : ℕ) (os : List Open) (o : Option Command) → line-fault n os (capped-line o) ≡ line-fault n os o
+line-capped : (n : ℕ) (os : List P.Opening) (o : Option Command) → line-fault n os (capped-line o) ≡ line-fault n os o
 line-capped n os none = refl
 line-capped n os (some c) = go (leb (above (indices c)) 32) refl
   where
@@ -73,27 +75,27 @@ line-capped n os (some c) = go (leb (above (indices c)) 32) refl
     go true e = rw (capped-low c (leb-true (above (indices c)) 32 e))
     go false e = rw (e, lt-leb (above (indices (capped c))) 32 (capped-high c (leb-false (above (indices c)) 32 e)))
 
-passes-capped : (n : ℕ) (os : List Open) (o : Option Command) → line-fault n os o ≡ none → capped-line o ≡ o
+passes-capped : (n : ℕ) (os : List P.Opening) (o : Option Command) → line-fault n os o ≡ none → capped-line o ≡ o
 passes-capped n os none e = absurd (Option·none-ne-some _ (sym e))
 passes-capped n os (some c) e = ap some (capped-low c (indexed n os c e))
 
-lines-capped : (p : List (Option Command)) (n : ℕ) (os : List Open) → lines-fault n os (map capped-line p) ≡ lines-fault n os p
+lines-capped : (p : List (Option Command)) (n : ℕ) (os : List P.Opening) → lines-fault n os (map capped-line p) ≡ lines-fault n os p
 unfolding lines-fault
 lines-capped [] n [] = refl
 lines-capped [] n (o ∷ os) = refl
-lines-capped (c ∷ p) n os = rw (line-capped n os c) (go (line-fault n os c) refl (lines-capped p (suc n) (open-next n os c)))
+lines-capped (c ∷ p) n os = rw (line-capped n os c) (go (line-fault n os c) refl (lines-capped p (suc n) (open-past n os c)))
   where
     go : (v : Option Refusal) → line-fault n os c ≡ v
-        → lines-fault (suc n) (open-next n os c) (map capped-line p) ≡ lines-fault (suc n) (open-next n os c) p
-        → or-else v (lines-fault (suc n) (open-next n os (capped-line c)) (map capped-line p))
-        ≡ or-else v (lines-fault (suc n) (open-next n os c) p)
+        → lines-fault (suc n) (open-past n os c) (map capped-line p) ≡ lines-fault (suc n) (open-past n os c) p
+        → or-else v (lines-fault (suc n) (open-past n os (capped-line c)) (map capped-line p))
+        ≡ or-else v (lines-fault (suc n) (open-past n os c) p)
     go none e r = rw (passes-capped n os c e) r
     go (some q) e r = refl
 
-all-capped : (p : List (Option Command)) (n : ℕ) (os : List Open) → lines-fault n os p ≡ none → map capped-line p ≡ p
+all-capped : (p : List (Option Command)) (n : ℕ) (os : List P.Opening) → lines-fault n os p ≡ none → map capped-line p ≡ p
 all-capped [] n os e = refl
 all-capped (c ∷ p) n os e =
-    rw (passes-capped n os c (first-line n os c p e), all-capped p (suc n) (open-next n os c) (next-lines n os c p e))
+    rw (passes-capped n os c (first-line n os c p e), all-capped p (suc n) (open-past n os c) (next-lines n os c p e))
 
 program-capped : (p : List (Option Command)) → program-fault (map capped-line p) ≡ program-fault p
 unfolding program-fault rule-3

@@ -1,6 +1,6 @@
 -- Laws of the lines of a text: where each ends, and their numbers in the list as they are read.
 use mathlib.Core.Path.{_≡_, refl, sym, ap, _∙_}
-use mathlib.Core.Bool.{Bool, true, false, cond}
+use mathlib.Core.Bool.{Bool, true, false, cond, not}
 use mathlib.Core.List.{List, [], _∷_, _++_, append-assoc, append-nil}
 use Prim.Native.Nat.{ℕ, suc, _+_, _-_, _*_, _<_, _≤_}
 use native.Mathlib.Numerals.{add-one}
@@ -11,43 +11,23 @@ use lib.ListN.{length, getD, take, drop, length-append, length-drop, drop-of-len
 use lib.Seq.{sets, sets-eq, drop-cons, drop-drop, take-at, length-take-le}
 use Rattle.theory.specs.Text.{Bytes, LF, onto-first, split-lines}
 use Rattle.theory.specs.ProgramText.{command}
-use Rattle.program.specs.declared.line.Numbers.{Numbers}
-use Rattle.program.specs.Lines.{numbered, line-length, all-numbers, Lined}
+use Rattle.text.specs.Runs.{leading, before}
+use Rattle.command.specs.declared.Numbers.{Numbers}
+use Rattle.command.specs.Lines.{numbered}
+use Rattle.program.specs.Lines.{all-numbers, Lined}
 
--- Where a line ends
-
-abbrev pub EndsFrom : Bytes → ℕ → ℕ → Type 0
-EndsFrom t at end = (end ≤ length t) × (end + line-length (drop end t) ≡ at + line-length (drop at t))
-
-module _ (t : Bytes) (at end : ℕ) (h : EndsFrom t at end) where
-  pub line-more : end < length t → (getD t end 0 ≡ 10 → ⊥) → EndsFrom t at (end + 1)
-  unfolding line-length
-  line-more l n =
-      let here : line-length (drop end t) ≡ suc (line-length (drop (end + 1) t)) = rw
-      (drop-cons t end 0 l, ne-eqb (getD t end 0) 10 n, add-one end) in
-      (omega arith, omega (arith, h .1, here))
-
-  pub line-LF : end < length t → getD t end 0 ≡ 10 → (end ≡ at + line-length (drop at t)) × (end ≤ length t)
-  unfolding line-length
-  line-LF l e =
-      let here : line-length (drop end t) ≡ 0 = rw (drop-cons t end 0 l, e) in
-      (omega (arith, h .1, here), h .0)
-
-  pub line-last : length t ≤ end → (end ≡ at + line-length (drop at t)) × (end ≤ length t)
-  unfolding line-length
-  line-last l =
-      let here : line-length (drop end t) ≡ 0 = rw (drop-of-length-le t l) in
-      (omega (arith, h .1, here), h .0)
+abbrev line-length : Bytes → ℕ
+line-length = before LF
 
 -- A text that is not empty has a first line, and those after its LF
 first-line : (t : Bytes) → 0 < length t → split-lines t ≡ take (line-length t) t ∷ split-lines (drop (suc (line-length t)) t)
-unfolding split-lines line-length
+unfolding split-lines leading
 first-line [] h = absurd (omega arith)
 first-line (b ∷ t) h = go (eqb b LF) t (first-line t)
   where
     go : (x : Bool) (t : Bytes) → (0 < length t → split-lines t ≡ take (line-length t) t ∷ split-lines (drop (suc (line-length t)) t))
         → cond x ([] ∷ split-lines t) (onto-first b (split-lines t))
-        ≡ take (cond x 0 (suc (line-length t))) (b ∷ t) ∷ split-lines (drop (suc (cond x 0 (suc (line-length t)))) (b ∷ t))
+        ≡ take (cond (not x) (suc (line-length t)) 0) (b ∷ t) ∷ split-lines (drop (suc (cond (not x) (suc (line-length t)) 0)) (b ∷ t))
     go true t r = refl
     go false [] r = refl
     go false (c ∷ t) r = rw (r (omega arith))

@@ -19,15 +19,7 @@ abbrev pub checked : Answer (List Command) → Checked
 checked (done p) = C.Accepted (program-of p)
 checked (refused r) = C.Refused r
 
--- A program read into a lent list of three numbers a command: rules 1 to 8, then 19
-unfoldable pub read-into : List ℕ → List ℕ → Answer (List Command)
-read-into lent t = after (read-text t) λ p. answer (rule-19 lent (list-of p)) p
-
 -- A program written: its number of bytes, or the number and place of the first rule that applies
 abbrev pub written : Answer (List ℕ) → Written
 written (done l) = W.Done (length l)
 written (refused r) = W.Refused r
-
--- A list written into a lent text: rules 3 to 8, then 19
-unfoldable pub write-into : List ℕ → List ℕ → Answer (List ℕ)
-write-into lent l = lend lent (mapped text-of (read-list l))

@@ -6,8 +6,9 @@ use mathlib.Core.Path.{_≡_}
 use Prim.Native.Nat.{ℕ, zero, suc, _≤_}
 use lib.ListN.{getD, replicate}
 use lib.Dec.{eqb, ltb}
+use Rattle.theory.specs.ProgramText as P
 use Rattle.theory.specs.ProgramText.{Kind, loop, while, Command}
-use Rattle.theory.specs.TurnedDown.{Open, open-next}
+use Rattle.theory.specs.TurnedDown.{open-past}
 use Rattle.theory.specs.declared.Refusal.{Refusal}
 use Rattle.program.specs.declared.Program.{Program}
 use Rattle.program.specs.declared.Checked.{Checked}
@@ -28,11 +29,11 @@ abbrev pub no-pairs : Nest
 no-pairs = record { count = 0; openings = replicate 16 nothing }
 
 -- The first n openings as the definitions have them, the innermost (the last) first
-unfoldable pub innermost : ℕ → List Opening → List Open
+unfoldable pub innermost : ℕ → List Opening → List P.Opening
 innermost zero l = []
 innermost (suc n) l = let o = getD l n nothing in record { line = o .line; kind = kind-of (o .kind); index = o .index } ∷ innermost n l
 
-abbrev pub open-pairs : Nest → List Open
+abbrev pub open-pairs : Nest → List P.Opening
 open-pairs s = innermost (s .count) (s .openings)
 
 -- Whether a kind and a third number are those of a command
@@ -44,11 +45,11 @@ judgement none = Passes
 judgement (some r) = Fault r
 
 -- The pairs after command c at line n, under the pairs os
-pub record Follows (n : ℕ) (os : List Open) (c : Option Command) (r : Nest) : Type 0 where
-  pub pairs : open-pairs r ≡ open-next n os c
+pub record Follows (n : ℕ) (os : List P.Opening) (c : Option Command) (r : Nest) : Type 0 where
+  pub pairs : open-pairs r ≡ open-past n os c
   pub room : r .count ≤ 16
 
 -- "A pair is left open (place the innermost opening line)", 8; else the program is accepted
-abbrev pub at-end : Program → List Open → Checked
+abbrev pub at-end : Program → List P.Opening → Checked
 at-end p [] = Accepted p
 at-end p (o ∷ os) = Refused (record { number = 8; place = o .line })

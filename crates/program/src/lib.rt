@@ -1,10 +1,11 @@
 // Programs as text and as a list of three numbers a command (document 01, "The program text"): checked by rules 1 to 8, read and written.
-mod line; // line.rt: the three numbers of a line
+mod lines; // lines.rt: the three numbers of every line
 mod nest; // nest.rt: rules 4 to 7, for one command under the pairs that are open
-mod spell; // spell.rt: the bytes of a command
+mod spell; // spell.rt: the text of a list
 
 use nest::Judged;
 use nest::Nest;
+use text::put::put_bytes;
 use theory::Refusal;
 ghost use mathlib.Core.Path.{_≡_};
 ghost use Prim.Native.Nat.{suc, max, _<_};
@@ -13,8 +14,8 @@ ghost use lib.Dec.{eqb};
 ghost use lib.ListN.{length};
 ghost use Rattle.theory.specs.Text.{ends-in-LF};
 ghost use Rattle.theory.specs.ProgramText.{list-of};
-ghost use Rattle.theory.specs.TurnedDown.{mapped, read-list, lent-after};
-ghost use Rattle.program.specs.Answers.{checked, read-into, written, write-into};
+ghost use Rattle.theory.specs.TurnedDown.{mapped, read-list, lent-after, read-program-into, write-program-into};
+ghost use Rattle.program.specs.Answers.{checked, written};
 
 // What is known of an accepted program: its number of commands, and K, the highest index named plus 1.
 pub struct Program {
@@ -27,8 +28,6 @@ impl Program {
     pub const BYTES: usize = 16384;
 
     pub const LINES: usize = 512;
-
-    pub const INDEX: u8 = 31;
 
     pub const OPEN: usize = 16;
 
@@ -102,15 +101,15 @@ fn is_ended(text: &[u8]) -> bool
 
 // A text read into a lent list of three numbers a command: rules 1 to 8, then 19.
 pub fn read(text: &[u8], list: &mut [u8]) -> Checked
-    ensures { λ r. ⌜ r ≡ checked (read-into (now (list .entry)) (now (text .entry))) ⌝ }
+    ensures { λ r. ⌜ r ≡ checked (read-program-into (now (list .entry)) (now (text .entry))) ⌝ }
     ensures { λ _. ⌜ now (list .exit)
-        ≡ lent-after (now (list .entry)) (mapped list-of (read-into (now (list .entry)) (now (text .entry)))) ⌝ }
+        ≡ lent-after (now (list .entry)) (mapped list-of (read-program-into (now (list .entry)) (now (text .entry)))) ⌝ }
 {
     if Program::BYTES < text.len() {
         return refused(1, 0);
     }
     let mut numbers = [0u8; Program::NUMBERS];
-    let lines = line::read_lines(text, &mut numbers);
+    let lines = lines::read_lines(text, &mut numbers);
     if !is_ended(text) {
         return refused(2, lines);
     }
@@ -124,7 +123,7 @@ pub fn read(text: &[u8], list: &mut [u8]) -> Checked
             if list.len() < count {
                 return refused(19, 0);
             }
-            spell::put_bytes(list, 0, &numbers[..count]);
+            put_bytes(list, 0, &numbers[..count]);
             Checked::Accepted(program)
         }
     }
@@ -132,8 +131,8 @@ pub fn read(text: &[u8], list: &mut [u8]) -> Checked
 
 // A list written into a lent text: rules 3 to 8, then 19.
 pub fn write(list: &[u8], text: &mut [u8]) -> Written
-    ensures { λ r. ⌜ r ≡ written (write-into (now (text .entry)) (now (list .entry))) ⌝ }
-    ensures { λ _. ⌜ now (text .exit) ≡ lent-after (now (text .entry)) (write-into (now (text .entry)) (now (list .entry))) ⌝ }
+    ensures { λ r. ⌜ r ≡ written (write-program-into (now (text .entry)) (now (list .entry))) ⌝ }
+    ensures { λ _. ⌜ now (text .exit) ≡ lent-after (now (text .entry)) (write-program-into (now (text .entry)) (now (list .entry))) ⌝ }
 {
     match check_list(list) {
         Checked::Refused(r) => Written::Refused(r),

@@ -1,6 +1,12 @@
 // The pairs that are open, and rules 4 to 7 for one command under them.
 use crate::Checked;
 use crate::Program;
+use command::COPY;
+use command::ENDLOOP;
+use command::ENDWHILE;
+use command::LOOP;
+use command::Numbers;
+use command::WHILE;
 use theory::Refusal;
 ghost use mathlib.Core.Path.{_≡_};
 ghost use mathlib.Core.Option.{none, some};
@@ -54,8 +60,8 @@ fn is_command(kind: u8, source: u8) -> bool
 {
     match kind {
         0 => false,
-        3 => true,
-        1..=7 => source == 0,
+        COPY => true,
+        1..=ENDWHILE => source == 0,
         _ => false,
     }
 }
@@ -64,7 +70,11 @@ fn is_command(kind: u8, source: u8) -> bool
 fn are_alike(kind: u8, other: u8) -> bool
     ensures { λ r. ⌜ r ≡ same-kind (kind-of kind) (kind-of other) ⌝ }
 {
-    if kind == 4 { other == 4 } else { other != 4 }
+    if kind == LOOP {
+        other == LOOP
+    } else {
+        other != LOOP
+    }
 }
 
 impl Nest {
@@ -125,14 +135,14 @@ impl Nest {
         if !is_command(kind, source) {
             return fault(4, line);
         }
-        if Program::INDEX < higher(index, source) {
+        if Numbers::INDEX < higher(index, source) {
             return fault(5, line);
         }
         match kind {
-            4 => self.opening(line),
-            5 => self.closing(line, 4, index),
-            6 => self.opening(line),
-            7 => self.closing(line, 6, index),
+            LOOP => self.opening(line),
+            ENDLOOP => self.closing(line, LOOP, index),
+            WHILE => self.opening(line),
+            ENDWHILE => self.closing(line, WHILE, index),
             _ => Judged::Passes,
         }
     }

@@ -1,5 +1,6 @@
 -- What the runs that this crate calls hand back for a row: the ends and the steps of the definitions' runs.
-use mathlib.Core.Path.{subst, _≡_, sym, ap, _∙_}
+use mathlib.Core.Path.{subst, _≡_, refl, sym, ap, _∙_}
+use mathlib.Core.Option.{none, some, Option·none-ne-some}
 use mathlib.Core.List.{List}
 use Prim.Native.Nat.{ℕ}
 use native.Mathlib.Omega.{arith}
@@ -8,30 +9,49 @@ use lib.ListN.{getD}
 use Rattle.theory.specs.Text.{Bytes}
 use Rattle.theory.specs.ProgramText.{Command, variables}
 use Rattle.theory.specs.Word as W
+use Rattle.theory.specs.Word.{Entry}
 use Rattle.theory.specs.Translation.{word-of, word-text}
 use Rattle.theory.specs.Machines.{holding, run-word}
-use Rattle.theory.specs.TurnedDown.{done, after, read-list, read-word-for, instructions}
+use Rattle.theory.specs.TurnedDown.{done, after, read-list, read-word-for, word-fault, word-entries, instructions, run-from, for-machine}
 use Rattle.theory.specs.RunTool.{tool-source, tool-word}
 use Rattle.theory.specs.Claims.{Accepted}
+use Rattle.theory.specs.declared.Refusal.{Refusal}
+use Rattle.theory.proofs.Faults.{none-first, answer-done}
 use Rattle.theory.proofs.Nesting.{reads-accepted}
 use Rattle.theory.proofs.Sizes.{words-fit}
-use Rattle.machine.specs.Calls as Calls
-use Rattle.machine.specs.declared.answers.Run as M
-use Rattle.source.specs.Answers.{fresh-state, run-from, ended-by, state-by, HandsBack}
+use Rattle.theory.proofs.Words.{good-table}
+use Rattle.word.specs.Answers.{zipped}
+use Rattle.memory.specs.Calls as Calls
+use Rattle.memory.specs.declared.answers.Ended as Ended
+use Rattle.memory.specs.declared.answers.Position.{Position}
+use Rattle.memory.specs.declared.answers.Run as M
+use Rattle.machine.proofs.ByByte.{ended-by-byte, ran-by-table}
+use Rattle.machine.proofs.ReadWord.{word-good, word-read}
+use Rattle.source.specs.Answers.{source-state, fresh-state, ended-by, state-by, HandsBack}
 use Rattle.source.specs.declared.Run.{Run}
 use Rattle.source.specs.declared.State.{State}
 use Rattle.report.specs.Fresh.{values-of, Starts, Filled}
-use Rattle.report.specs.Rows.{commands, ended-of, word-ended, source-ended, row-of, Ready, Ran}
+use Rattle.report.specs.Rows.{commands, ended-of, word-ended, source-ended, row-of, Ready, Tabled, Ran}
 use Rattle.report.specs.declared.writing.Ended.{Ended}
 use Rattle.report.proofs.Starting.{source-passes, source-runs, source-within, first-within}
 use Rattle.report.proofs.Starting.{word-memory, word-start, memory-passes, word-runs, word-within, tool-runs}
+
+-- The word of an accepted program passes rules 11 to 14
+word-passes : (p : List Command) → Accepted p → word-fault (word-text p) ≡ none
+unfolding read-word-for
+word-passes p accepted = none-first (word-fault (word-text p)) _ (answer-done _ _ _ (words-fit p accepted .1) .0)
+
+-- Where a refusal is, counts for nothing
+any-place : (t : List Entry) (e : Ended.Ended) → word-ended (ended-by-byte t e) ≡ word-ended e
+any-place t (Ended.Ended.Ran end n) = refl
+any-place t (Ended.Ended.Refused r) = refl
 
 module _ (p : List Command) (accepted : Accepted p) (values : List ℕ) (h : Starts (variables p) values) (store : Bytes) (lengths : List ℕ)
     (filled : Filled (holding (variables p) (values-of values)) store lengths) where
   ran : run-word (word-of p) (word-memory store lengths) word-start 1000000 ≡ tool-word p (values-of values)
   ran = word-runs (variables p) values h store lengths filled (word-of p) ∙ sym (tool-runs p (values-of values))
 
-  read : Calls.checked (word-memory store lengths) (read-word-for 64 (word-text p)) ≡ done (W.table-of (word-of p))
+  read : for-machine (word-memory store lengths) (read-word-for 64 (word-text p)) ≡ done (W.table-of (word-of p))
   read = rw (memory-passes (variables p) values h store lengths filled) (words-fit p accepted .1)
 
   pub word-called-ends : (r : M.Run) (store′ : Bytes) (lengths′ : List ℕ)
@@ -46,14 +66,30 @@ module _ (p : List Command) (accepted : Accepted p) (values : List ℕ) (h : Sta
       = ap (λ w. run-word w m word-start 1000000) (words-fit p accepted .2) ∙ ran in
       ap {B = Ended} (λ c. word-ended (c .run .ended)) answered ∙ ap {B = Ended} ended-of same
 
+  -- The word's instructions, run, end as the word does
+  pub table-called-ends : (r : M.Run) (store′ : Bytes) (lengths′ : List ℕ)
+      → Calls.handed r store′ lengths′
+      ≡ Calls.table-called (word-memory store lengths) (record { place = pos 1; steps = 0 }) 1000000 (word-entries (word-text p))
+      → word-ended (r .ended) ≡ ended-of (tool-word p (values-of values))
+  table-called-ends r store′ lengths′ e =
+      let m = word-memory store lengths in
+      let t = word-entries (word-text p) in
+      let at : Position = record { place = pos 1; steps = 0 } in
+      let passes = good-table t (word-good (word-text p) (word-passes p accepted)) in
+      let ran-so = ran-by-table m at 1000000 t passes r store′ lengths′ e (r .ended) refl ∙ sym (word-read m at 1000000 (word-text p)
+      (word-passes p accepted)) in
+      sym (any-place t (r .ended)) ∙ word-called-ends _ store′ lengths′ ran-so
+
 -- The source
 module _ (p : List Command) (values : List ℕ) (h : Starts (variables p) values) (list : Bytes) (accepted : read-list list ≡ done p) where
-  source-answer : after (read-list list) (run-from (fresh-state 1024 values) 100000) ≡ done (tool-source p (values-of values))
+  source-answer : after (read-list list) (run-from (source-state (fresh-state 1024 values)) 100000)
+      ≡ done (tool-source p (values-of values))
   unfolding run-from
   source-answer = rw (accepted, source-passes p values h) (ap done (source-runs p values h))
 
   module _ (r : Run)
-      (back : HandsBack (fresh-state 1024 values) (after (read-list list) (run-from (fresh-state 1024 values) 100000)) r) where
+      (back : HandsBack (fresh-state 1024 values)
+      (after (read-list list) (run-from (source-state (fresh-state 1024 values)) 100000)) r) where
     pub source-ends : source-ended (r .ended) ≡ ended-of (tool-source p (values-of values))
     unfolding ended-by
     source-ends = ap {B = Ended} source-ended (back .ended ∙ ap ended-by source-answer)
@@ -62,8 +98,14 @@ module _ (p : List Command) (values : List ℕ) (h : Starts (variables p) values
     unfolding state-by
     source-first = ap (λ s. getD (s .values) 0 0) (back .state ∙ ap {B = State} (state-by (fresh-state 1024 values)) source-answer)
 
+-- The word of an accepted list is not turned down
+pub word-unrefused : {list word : Bytes} {K : ℕ} → Ready list word K → {r : Refusal} → word-fault word ≡ some r → ⊥
+word-unrefused {list} {word} ready {r} f =
+    let accepted : Accepted (commands list) = reads-accepted .1 list (commands list) (ready .listed .accepted) in
+    Option·none-ne-some r (sym (word-passes (commands list) accepted) ∙ rw (← ready .translated) f)
+
 -- Both runs of a row
-module _ (list word : Bytes) (K : ℕ) (values : List ℕ) (ready : Ready list word K) (h : Starts K values) where
+module _ (list kinds operands : List ℕ) (K : ℕ) (values : List ℕ) (ready : Tabled list kinds operands K) (h : Starts K values) where
   p : List Command
   p = commands list
 
@@ -71,16 +113,17 @@ module _ (list word : Bytes) (K : ℕ) (values : List ℕ) (ready : Ready list w
   v = values-of values
 
   pub row-ran : (r : Run)
-      → HandsBack (fresh-state 1024 values) (after (read-list list) (run-from (fresh-state 1024 values) 100000)) r
+      → HandsBack (fresh-state 1024 values) (after (read-list list) (run-from (source-state (fresh-state 1024 values)) 100000)) r
       → (source-run word-run : Ended) → source-run ≡ source-ended (r .ended)
-      → ((q : List Command) → Accepted q → word ≡ word-text q → K ≡ variables q → word-run ≡ ended-of (tool-word q (values-of values)))
+      → ((q : List Command) → Accepted q → zipped kinds operands ≡ word-entries (word-text q) → K ≡ variables q
+      → word-run ≡ ended-of (tool-word q (values-of values)))
       → Ran (commands list) (values-of values) (record { source = source-run; word = word-run; first = getD (r .state .values) 0 0 })
   unfolding row-of p v
   row-ran r back source-run word-run e w =
       let starts : Starts (variables p) values = subst (λ k. Starts k values) (ready .listed .named) h in
       let accepted : Accepted p = reads-accepted .1 list p (ready .listed .accepted) in
       let source : source-run ≡ ended-of (tool-source p v) = e ∙ source-ends p values starts list (ready .listed .accepted) r back in
-      let word : word-run ≡ ended-of (tool-word p v) = w p accepted (ready .translated) (ready .listed .named) in
+      let word : word-run ≡ ended-of (tool-word p v) = w p accepted (ready .table) (ready .listed .named) in
       let first : getD (r .state .values) 0 0 ≡ tool-source p v .state .values 0
       = source-first p values starts list (ready .listed .accepted) r back in
       record {

@@ -2,17 +2,16 @@
 use mathlib.Core.Path.{_≡_, refl, sym, ap, ap₂, subst, _∙_}
 use mathlib.Core.Bool.{true}
 use mathlib.Core.Option.{Option, none, some}
-use mathlib.Core.List.{List}
+use mathlib.Core.List.{List, []}
 use Prim.Native.Nat.{ℕ, min, _-_, _≤_}
 use native.Mathlib.Omega.{arith}
 use lib.Dec.{ltb}
 use lib.ListN.{length}
 use borrow.Author.Tests.{le-leb}
-use Rattle.theory.specs.Basics.{cells, all}
+use Rattle.theory.specs.Basics.{cells, all, default}
 use Rattle.theory.specs.Text.{Bytes, split-lines}
 use Rattle.theory.specs.ProgramText.{above}
 use Rattle.theory.specs.RunSheet.{values, start, distinct}
-use Rattle.theory.specs.RunTool.{values-or-none}
 use Rattle.theory.specs.TurnedDown.{values-fault, sheet-fault, names-of}
 use Rattle.theory.specs.declared.Refusal.{Refusal}
 use Rattle.sheet.specs.Answers.{names-record, line-at, after-line, columns-of, starts, starts-as, row-answer}
@@ -41,12 +40,12 @@ module _ (s : Bytes) (ns : List ℕ) (n at : ℕ) (few : length ns ≤ 32)
   passing = subst (λ c. values-fault 1024 (length c) n (values (line-at s at)) ≡ none) (sym (columns-names ns few)) passes
 
   read-start : (o : Option (List ℕ)) → values-fault 1024 (length ns) n o ≡ none
-      → starts-as none ns o ≡ cells 32 (start ns (values-or-none o))
+      → starts-as none ns o ≡ cells 32 (start ns (default [] o))
   unfolding starts
   read-start none h = cc
   read-start (some vs) h = refl
 
-  pub row-values : row-answer s (names-record ns) 1024 n at .values ≡ cells 32 (start ns (values-or-none (values (line-at s at))))
+  pub row-values : row-answer s (names-record ns) 1024 n at .values ≡ cells 32 (start ns (default [] (values (line-at s at))))
   unfolding row-answer
   row-values =
       ap₂ {C = List ℕ} (λ f c. starts-as f c (values (line-at s at))) passing (columns-names ns few)

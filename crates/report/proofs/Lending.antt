@@ -12,7 +12,7 @@ use borrow.Author.Tests.{le-leb, lt-leb, leb-true, leb-false}
 use Rattle.theory.specs.Text.{Bytes}
 use Rattle.theory.specs.TurnedDown.{done, refused, rule-19, lent-after}
 use Rattle.theory.specs.RunTool.{report}
-use Rattle.report.specs.Puts.{Put}
+use Rattle.text.specs.Puts.{Put}
 use Rattle.report.specs.Answers.{reported, report-into}
 use Rattle.report.specs.declared.Reported.{Reported}
 use Rattle.report.specs.declared.Reported.the-variants as R
@@ -34,10 +34,10 @@ module _ (lent text sheet : Bytes) where
       → Answers (R.Done n) after
   unfolding lent-after
   report-done after n h put =
-      let size : n ≡ length (report text sheet) = put .counted ∙ zero-add (length (report text sheet)) in
+      let size : n ≡ length (report text sheet) = omega (arith, put .next, put .sized) in
       let room : 0 + length (report text sheet) ≤ length lent = omega arith in
       let whole : after ≡ report text sheet ++ drop (length (report text sheet)) lent
-      = put .written ∙ sets-eq (report text sheet) lent 0 room ∙ rw zero-add in
+      = put .wrote ∙ sets-eq (report text sheet) lent 0 room ∙ rw zero-add in
       (rw (fitting h, size), rw (fitting h) whole)
 
   pub report-refused : length lent < length (report text sheet) → Answers (R.Refused (record { number = 19; place = 0 })) lent

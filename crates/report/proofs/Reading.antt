@@ -1,37 +1,24 @@
 -- A program read into a lent list that has room for any: rule 19 never applies, and the list begins with the program's numbers.
 use mathlib.Core.Path.{_≡_, refl, sym, ap, subst, _∙_}
-use mathlib.Core.List.{List, [], _∷_, _++_}
+use mathlib.Core.List.{List, _++_}
 use Prim.Native.Nat.{ℕ, _+_, _*_, _≤_}
 use native.Mathlib.Omega.{arith}
-use lib.ListN.{length, take, drop, length-append}
+use lib.ListN.{length, take, drop}
 use lib.Seq.{take-at}
 use borrow.Author.Tests.{le-leb}
 use Rattle.theory.specs.Basics.{present}
 use Rattle.theory.specs.Text.{Bytes}
-use Rattle.theory.specs.ProgramText.{Command, variables, plain, clear, increment, copy, opens, closes, loop, while, numbers, list-of}
-use Rattle.theory.specs.TurnedDown.{Answer, done, refused, mapped, rule-19, read-text, read-list, lent-after}
+use Rattle.theory.specs.ProgramText.{Command, variables, list-of}
+use Rattle.theory.specs.TurnedDown.{Answer, done, refused, mapped, rule-19, read-text, read-list, lent-after, read-program-into}
 use Rattle.theory.specs.Claims.{Accepted}
 use Rattle.theory.specs.declared.Refusal.{Refusal}
 use Rattle.theory.proofs.Nesting.{short, few-variables, reads-accepted}
 use Rattle.theory.proofs.Lists.{listed-list, present-some, lists-round-trip}
-use Rattle.program.specs.Answers.{program-of, checked, read-into}
+use Rattle.program.proofs.Lists.{list-length}
+use Rattle.program.specs.Answers.{program-of, checked}
 use Rattle.program.specs.declared.Program.{Program}
 use Rattle.program.specs.declared.Checked.the-variants as C
 use Rattle.report.specs.Rows.{commands, Listed}
-
-length-numbers : (c : Command) → length (numbers c) ≡ 3
-length-numbers (plain (clear i)) = refl
-length-numbers (plain (increment i)) = refl
-length-numbers (plain (copy i j)) = refl
-length-numbers (opens loop i) = refl
-length-numbers (opens while i) = refl
-length-numbers (closes loop i) = refl
-length-numbers (closes while i) = refl
-
-length-list : (p : List Command) → length (list-of p) ≡ 3 * length p
-unfolding list-of
-length-list [] = refl
-length-list (c ∷ p) = length-append (numbers c) (list-of p) ∙ omega (arith, length-numbers c, length-list p)
 
 -- The commands of a program's list
 commands-list : (p : List Command) → commands (list-of p) ≡ p
@@ -63,33 +50,33 @@ module _ (t list : Bytes) (q : Program) (r : Read t list q) where
       subst (λ l. read-list l ≡ done (commands l)) (sym (r .front)) sound
 
 module _ (lent t : Bytes) (size : length lent ≡ 1536) where
-  room-for-any : read-into lent t ≡ read-text t
-  unfolding read-into rule-19
+  room-for-any : read-program-into lent t ≡ read-text t
+  unfolding read-program-into rule-19
   room-for-any = go (read-text t) refl
     where
-      go : (a : Answer (List Command)) → read-text t ≡ a → read-into lent t ≡ read-text t
+      go : (a : Answer (List Command)) → read-text t ≡ a → read-program-into lent t ≡ read-text t
       go (refused r) e = rw e
       go (done p) e =
           let few : length p ≤ 512 = short p (reads-accepted .0 t p e) in
-          let fits : length (list-of p) ≤ length lent = omega (arith, length-list p, size) in
+          let fits : length (list-of p) ≤ length lent = omega (arith, list-length p, size) in
           rw (e, le-leb (length (list-of p)) (length lent) fits)
 
-  pub text-turned-down : (r : Refusal) → C.Refused r ≡ checked (read-into lent t) → read-text t ≡ refused r
+  pub text-turned-down : (r : Refusal) → C.Refused r ≡ checked (read-program-into lent t) → read-text t ≡ refused r
   text-turned-down r e = go (read-text t) refl (e ∙ ap checked room-for-any)
     where
       go : (a : Answer (List Command)) → read-text t ≡ a → C.Refused r ≡ checked a → a ≡ refused r
       go (refused x) h f = cc
       go (done p) h f = cc
 
-  list-front : (p : List Command) (list : Bytes) → read-into lent t ≡ done p
-      → list ≡ lent-after lent (mapped list-of (read-into lent t)) → take (3 * length p) list ≡ list-of p
+  list-front : (p : List Command) (list : Bytes) → read-program-into lent t ≡ done p
+      → list ≡ lent-after lent (mapped list-of (read-program-into lent t)) → take (3 * length p) list ≡ list-of p
   unfolding lent-after
   list-front p list e h =
       let whole : list ≡ list-of p ++ drop (length (list-of p)) lent = h ∙ ap {B = Bytes} (λ a. lent-after lent (mapped list-of a)) e in
-      rw whole (take-at (list-of p) (drop (length (list-of p)) lent) (3 * length p) (length-list p))
+      rw whole (take-at (list-of p) (drop (length (list-of p)) lent) (3 * length p) (list-length p))
 
-  pub text-passes : (q : Program) (list : Bytes) → C.Accepted q ≡ checked (read-into lent t)
-      → list ≡ lent-after lent (mapped list-of (read-into lent t)) → Read t list q
+  pub text-passes : (q : Program) (list : Bytes) → C.Accepted q ≡ checked (read-program-into lent t)
+      → list ≡ lent-after lent (mapped list-of (read-program-into lent t)) → Read t list q
   text-passes q list e h = go (read-text t) refl (e ∙ ap checked room-for-any)
     where
       go : (a : Answer (List Command)) → read-text t ≡ a → C.Accepted q ≡ checked a → Read t list q

@@ -8,13 +8,13 @@ use native.Mathlib.Omega.{arith}
 use lib.Dec.{leb}
 use lib.ListN.{length}
 use borrow.Author.Tests.{leb-true}
-use Rattle.theory.specs.Limits
 use Rattle.theory.specs.Text.{Bytes, split-lines, ends-in-LF}
 use Rattle.theory.specs.ProgramText.{above}
 use Rattle.theory.specs.RunSheet.{names, distinct}
 use Rattle.theory.specs.TurnedDown.{sheet-size-fault, names-fault, rows-fault, names-of, sheet-lines-fault, sheet-fault}
 use Rattle.theory.proofs.Texts.{joined, joined-lines}
 use Rattle.theory.proofs.Faults.{none-first, none-second, unless-none, and-first, and-second}
+use Rattle.sheet.proofs.Answered.{names-some}
 
 pub record Sheet (K : ℕ) (s : Bytes) : Type 0 where
   pub size : length s ≤ 4096
@@ -30,15 +30,12 @@ pub record Sheet (K : ℕ) (s : Bytes) : Type 0 where
 abbrev Good : ℕ → List ℕ → Type 0
 Good K ns = (leb (above ns) K && distinct ns) ≡ true
 
-names-read : (l : Bytes) (ls : List Bytes) (ns : List ℕ) → names l ≡ some ns → names-of (l ∷ ls) ≡ ns
-names-read l ls ns e = rw (e, names-of)
-
 names-accepted : (K : ℕ) (l : Bytes) (ls : List Bytes) → names-fault K (names l) ≡ none → Good K (names-of (l ∷ ls))
 names-accepted K l ls = go (names l) refl
   where
     go : (o : Option (List ℕ)) → names l ≡ o → names-fault K o ≡ none → Good K (names-of (l ∷ ls))
     go none e h = absurd (Option·none-ne-some _ (sym h))
-    go (some ns) e h = subst (Good K) (sym (names-read l ls ns e)) (unless-none (leb (above ns) K && distinct ns) 17 1 h)
+    go (some ns) e h = subst (Good K) (sym (names-some l ls ns e)) (unless-none (leb (above ns) K && distinct ns) 17 1 h)
 
 -- The lines, the first of which has the names
 ended-some : (s : Bytes) → ends-in-LF s ≡ true → split-lines s ≡ [] → ⊥

@@ -68,7 +68,7 @@ module _ (p : List Command) (values : List ℕ) (h : Starts (variables p) values
 -- The word
 
 abbrev pub word-memory : Bytes → List ℕ → Memory
-word-memory store lengths = record { registers = 64; capacity = 1024; store = store; lengths = lengths }
+word-memory store lengths = record { count = 64; capacity = 1024; store = store; lengths = lengths }
 
 abbrev pub word-start : Position
 word-start = record { place = pos 1; steps = 0 }
@@ -83,7 +83,7 @@ module _ (K : ℕ) (values : List ℕ) (h : Starts K values) (store : Bytes) (le
       go false e = rw e (omega arith)
 
   as-filled : refilled (word-memory store lengths) (holding K (values-of values)) ≡ word-memory store lengths
-  as-filled = λ i. record { registers = 64; capacity = 1024; store = sym (filled .store) i; lengths = sym (filled .lengths) i }
+  as-filled = λ i. record { count = 64; capacity = 1024; store = sym (filled .store) i; lengths = sym (filled .lengths) i }
 
   good : Good (refilled (word-memory store lengths) (holding K (values-of values)))
   good = refilled-good (word-memory store lengths) (holding K (values-of values)) fits refl refl

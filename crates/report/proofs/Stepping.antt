@@ -6,19 +6,20 @@ use Prim.Native.Nat.{ℕ, _+_, _≤_, _<_}
 use native.Mathlib.Omega.{arith}
 use lib.Dec.{leb}
 use lib.ListN.{length}
-use Rattle.theory.specs.Basics.{cells, all}
+use Rattle.theory.specs.Basics.{cells, all, default}
 use Rattle.theory.specs.Text.{Bytes, split-lines, ends-in-LF}
 use Rattle.theory.specs.RunSheet.{values, start}
-use Rattle.theory.specs.RunTool.{values-or-none, tool-source, tool-word, shown, header, row, rows-of}
+use Rattle.theory.specs.RunTool.{tool-source, tool-word, shown, header, row, rows-of}
 use Rattle.sheet.specs.Answers.{names-record, line-at, after-line, row-answer}
 use Rattle.sheet.specs.declared.answers.Names.{Names}
 use Rattle.sheet.specs.declared.answers.Row.{Row as Line}
 use Rattle.sheet.proofs.Splits.{lines-next}
 use Rattle.report.specs.declared.writing.Row.{Row}
-use Rattle.report.specs.Puts.{Put, row-line}
+use Rattle.text.specs.Puts.{most, Put}
+use Rattle.report.specs.Puts.{row-line}
 use Rattle.report.specs.Fresh.{values-of, Starts}
 use Rattle.report.specs.Rows.{commands, Ready, Given, Ran, Printed}
-use Rattle.report.proofs.Puts.{put-then}
+use Rattle.text.proofs.Puts.{put-then}
 use Rattle.report.proofs.Lengths.{row-short}
 use Rattle.report.proofs.Reading.{listed-few}
 use Rattle.report.proofs.Values.{values-within, cells-values, cells-start}
@@ -54,12 +55,12 @@ module _ (list word s : Bytes) (names : Names) (K : ℕ) (ready : Ready list wor
   module _ (from : ℕ) (before : Bytes) (at n place : ℕ) (out : Bytes)
       (w : Writing (commands list) s from before at n place out) (more : at < length s)
       (line : Line) (e : line ≡ row-answer s names 1024 n at) where
-    within : all (λ v. leb v 1024) (values-or-none (values (line-at s at))) ≡ true
+    within : all (λ v. leb v 1024) (default [] (values (line-at s at))) ≡ true
     within =
         let passes = line-passes (commands list) s from before at n place (after-line s at) (line-at s at) out w (lines-next s at more) in
         values-within (length (columns s)) n (values (line-at s at)) passes
 
-    read : line .values ≡ cells 32 (start (columns s) (values-or-none (values (line-at s at))))
+    read : line .values ≡ cells 32 (start (columns s) (default [] (values (line-at s at))))
     read =
         let passes = line-passes (commands list) s from before at n place (after-line s at) (line-at s at) out w (lines-next s at more) in
         let answered : line ≡ row-answer s (names-record (columns s)) 1024 n at
@@ -76,11 +77,11 @@ module _ (list word s : Bytes) (names : Names) (K : ℕ) (ready : Ready list wor
     next-inside = omega (arith, next)
 
     row-starts : Starts K (line .values)
-    row-starts = subst (Starts K) (sym read) (cells-start K (columns s) (values-or-none (values (line-at s at))) few (sheet .low) within)
+    row-starts = subst (Starts K) (sym read) (cells-start K (columns s) (default [] (values (line-at s at))) few (sheet .low) within)
 
     module _ (r : Row) (ran : Ran (commands list) (values-of (line .values)) r) where
-      from-start : values-of (line .values) ≡ start (columns s) (values-or-none (values (line-at s at)))
-      from-start = ap values-of read ∙ cells-values K (columns s) (values-or-none (values (line-at s at))) few (sheet .low) within
+      from-start : values-of (line .values) ≡ start (columns s) (default [] (values (line-at s at)))
+      from-start = ap values-of read ∙ cells-values K (columns s) (default [] (values (line-at s at))) few (sheet .low) within
 
       line-is : row-line r ≡ row (commands list) (columns s) (line-at s at)
       unfolding row
@@ -109,12 +110,12 @@ module _ (list word s : Bytes) (names : Names) (K : ℕ) (ready : Ready list wor
   some-bytes : 1 ≤ length s
   some-bytes = ended-length s (sheet .ended)
 
-  pub rows-begin : (from : ℕ) (before : Bytes) (at : ℕ) → at ≡ after-line s 0 → from ≤ 47
+  pub rows-begin : (from : ℕ) (before : Bytes) (at : ℕ) → at ≡ after-line s 0 → from ≤ 47 → length before ≤ most
       → Writing (commands list) s from before at 2 from before
-  rows-begin from before at e header =
+  rows-begin from before at e header fits =
       let some : 0 < length s = some-bytes in
       let start = writing-start (commands list) s from before K (after-line s 0) (line-at s 0) sheet (lines-next s 0 some) in
-      rw e (start (omega arith) (omega arith) header)
+      rw e (start (omega arith) (omega arith) header fits)
 
   pub rows-printed : (from place at n : ℕ) (first before out : Bytes) → Put header 0 first before from
       → Writing (commands list) s from before at n place out → length s ≤ at

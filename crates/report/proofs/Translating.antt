@@ -11,9 +11,9 @@ use borrow.Author.Tests.{leb-true, leb-false, le-leb, lt-leb}
 use Rattle.theory.specs.Text.{Bytes}
 use Rattle.theory.specs.ProgramText.{Command}
 use Rattle.theory.specs.Translation.{word-text}
-use Rattle.theory.specs.TurnedDown.{Answer, done, refused, rule-19, lent-after, mapped}
+use Rattle.theory.specs.TurnedDown.{Answer, done, refused, rule-19, lent-after, mapped, translate-into}
 use Rattle.theory.specs.declared.Refusal.{Refusal}
-use Rattle.translation.specs.Answers.{translate-into, translated, size-of}
+use Rattle.translation.specs.Answers.{translated, size-of}
 use Rattle.translation.specs.declared.Size.{Size}
 use Rattle.translation.specs.declared.Translated.the-variants as T
 

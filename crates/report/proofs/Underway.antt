@@ -13,8 +13,8 @@ use Rattle.theory.specs.TurnedDown.{values-fault, rows-fault, names-of}
 use Rattle.theory.specs.RunTool.{row, rows, rows-of}
 use Rattle.theory.specs.declared.Refusal.{Refusal}
 use Rattle.theory.proofs.Faults.{none-first, none-second}
-use Rattle.report.specs.Puts.{Put}
-use Rattle.report.proofs.Puts.{put-none, put-then}
+use Rattle.text.specs.Puts.{most, Put}
+use Rattle.text.proofs.Puts.{put-nothing, put-then}
 use Rattle.report.proofs.Sheets.{Sheet}
 
 -- The names of a sheet, and its lines from a byte on
@@ -43,13 +43,14 @@ module _ (p : List Command) (s : Bytes) (from : ℕ) (before : Bytes) where
   Whole t = t ≡ rows-of p (split-lines s)
 
   pub writing-start : (K at : ℕ) (l : Bytes) → Sheet K s → split-lines s ≡ l ∷ lines-from s at → 1 ≤ at → at ≤ length s → from ≤ 47
+      → length before ≤ most
       → Writing p s from before at 2 from before
-  writing-start K at l sheet e some inside header =
+  writing-start K at l sheet e some inside header fits =
       let same : lines-from s at ≡ sheet .rest = cc (sheet .lines) in
       record {
         inside = inside;
         text = [];
-        put = put-none from before;
+        put = put-nothing before from (omega arith) fits;
         whole = sym (rows-after p (split-lines s) l (lines-from s at) e);
         passes = subst (λ ls. rows-fault 1024 (length (columns s)) 2 ls ≡ none) (sym same) (sheet .rows);
         few = omega arith;
@@ -81,7 +82,7 @@ module _ (p : List Command) (s : Bytes) (from : ℕ) (before : Bytes) where
           put = put-then (w .put) put;
           whole = append-assoc (w .text) line left ∙ split;
           passes = rw (add-one n) (none-second (values-fault 1024 (length (columns s)) n (values l)) later passing);
-          few = omega (arith, put .counted, w .few);
+          few = omega (arith, put .next, w .few);
           counted = omega (arith, w .counted);
         }
 

@@ -8,10 +8,9 @@ use native.Mathlib.Omega.{arith}
 use lib.Dec.{eqb, ltb, leb}
 use lib.ListN.{length, List·getD-eq-default}
 use borrow.Author.Tests.{ltb-true, ltb-false, leb-true, ne-eqb}
-use Rattle.theory.specs.Basics.{cells, all}
+use Rattle.theory.specs.Basics.{cells, all, default}
 use Rattle.theory.specs.ProgramText.{above}
 use Rattle.theory.specs.RunSheet.{start}
-use Rattle.theory.specs.RunTool.{values-or-none}
 use Rattle.theory.specs.TurnedDown.{values-fault, unless}
 use Rattle.theory.proofs.Faults.{none-second, unless-none, and-first, and-second}
 use Rattle.theory.proofs.GoodMemory.{length-cells, getD-cells}
@@ -37,7 +36,7 @@ start-beyond (n ∷ ns) (v ∷ vs) i h =
 
 -- An accepted line's values are all within the capacity
 pub values-within : (count n : ℕ) (o : Option (List ℕ)) → values-fault 1024 count n o ≡ none
-    → all (λ v. leb v 1024) (values-or-none o) ≡ true
+    → all (λ v. leb v 1024) (default [] o) ≡ true
 values-within count n none h = refl
 values-within count n (some vs) h =
     let last = none-second (unless (eqb (length vs) count) 16 n) (unless (all (λ v. leb v 1024) vs) 18 n) h in

@@ -1,22 +1,15 @@
 -- What a text put into a lent output comes to, and the line of one run.
-use mathlib.Core.Path.{_≡_}
 use mathlib.Core.List.{[], _∷_, _++_}
 use Prim.Native.Nat.{ℕ, _+_, _≤_}
-use lib.ListN.{length}
-use lib.Seq.{sets}
 use Rattle.theory.specs.Text.{Bytes, blank, decimal, line-of}
 use Rattle.theory.specs.RunTool.{end-name, printed}
 use Rattle.theory.specs.TurnedDown.{refused}
 use Rattle.theory.specs.declared.Refusal.{Refusal}
+use Rattle.text.specs.Puts.{Put}
 use Rattle.report.specs.declared.writing.Ended.{Ended}
 use Rattle.report.specs.declared.writing.Row.{Row}
 
--- A text put from a place on: the place after it, and the output then. What has no place in the output is counted all the same
-pub record Put (text : Bytes) (place : ℕ) (before after : Bytes) (next : ℕ) : Type 0 where
-  pub counted : next ≡ place + length text
-  pub written : after ≡ sets before place text
-
--- The same of a text of so many bytes at most
+-- A text of so many bytes at most was put from a place on
 pub record Few (most : ℕ) (text : Bytes) (place : ℕ) (before after : Bytes) (next : ℕ) : Type 0 where
   pub put : Put text place before after next
   pub few : next ≤ place + most

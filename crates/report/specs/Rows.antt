@@ -11,16 +11,18 @@ use Rattle.theory.specs.Runs.{Outcome}
 use Rattle.theory.specs.Source as S
 use Rattle.theory.specs.Word as W
 use Rattle.theory.specs.Translation.{word-text}
-use Rattle.theory.specs.TurnedDown.{done, answer, read-list, sheet-fault, names-of}
+use Rattle.theory.specs.TurnedDown.{done, answer, read-list, word-entries, sheet-fault, names-of}
 use Rattle.theory.specs.RunTool.{tool-source, tool-word, header, rows-of, tool-fault, printed}
 use Rattle.theory.specs.declared.End.the-variants.{Spent}
-use Rattle.machine.specs.declared.answers.Ended as M
+use Rattle.word.specs.Answers.{zipped}
+use Rattle.memory.specs.declared.answers.Ended as M
 use Rattle.source.specs.declared.Ended as R
 use Rattle.sheet.specs.Answers.{names-record}
 use Rattle.sheet.specs.declared.answers.Names.{Names}
 use Rattle.report.specs.declared.writing.Ended.{Ended}
 use Rattle.report.specs.declared.writing.Row.{Row}
-use Rattle.report.specs.Puts.{Put, Within}
+use Rattle.text.specs.Puts.{Put}
+use Rattle.report.specs.Puts.{Within}
 
 -- The commands of a list
 abbrev pub commands : Bytes → List Command
@@ -56,6 +58,11 @@ pub record Ready (list word : Bytes) (K : ℕ) : Type 0 where
   pub listed : Listed list K
   pub translated : word ≡ word-text (commands list)
 
+-- or that word's instructions, as numbers
+pub record Tabled (list kinds operands : List ℕ) (K : ℕ) : Type 0 where
+  pub listed : Listed list K
+  pub table : zipped kinds operands ≡ word-entries (word-text (commands list))
+
 -- A sheet that is accepted for a program of K variables, and its names
 pub record Given (sheet : Bytes) (names : Names) (K : ℕ) : Type 0 where
   pub passes : sheet-fault tool-capacity K sheet ≡ none
@@ -71,6 +78,6 @@ unfoldable pub program-report : List Command → Bytes → Bytes
 program-report p sheet = printed (answer (tool-fault p sheet) (header ++ rows-of p (split-lines sheet)))
 
 -- The header and a line for each run, of 147,467 bytes at most: a sheet of 4,096 bytes has 4,095 runs at most, and a line 36 bytes
-pub record Printed (text : Bytes) (before after : Bytes) (length : ℕ) : Type 0 where
-  pub put : Put text 0 before after length
-  pub few : length ≤ 147467
+pub record Printed (text : Bytes) (before after : Bytes) (size : ℕ) : Type 0 where
+  pub put : Put text 0 before after size
+  pub few : size ≤ 147467

@@ -8,6 +8,8 @@ use rows::run_row;
 use sheet::Names;
 use theory::Refusal;
 use translation::Translated;
+use word::Instruction;
+use word::Read;
 use writing::put_header;
 use writing::put_refusal;
 use writing::put_row;
@@ -17,7 +19,7 @@ ghost use Rattle.theory.specs.Text.{split-lines};
 ghost use Rattle.theory.specs.TurnedDown.{lent-after};
 ghost use Rattle.theory.specs.RunTool as RunTool;
 ghost use Rattle.theory.specs.RunTool.{header, rows-of};
-ghost use Rattle.report.specs.Rows.{commands, Listed, Ready, Given, program-report, Printed};
+ghost use Rattle.report.specs.Rows.{commands, Listed, Ready, Tabled, Given, program-report, Printed};
 ghost use Rattle.report.specs.Answers.{reported, report-into};
 
 // The text has so many bytes, or does not fit into the output.
@@ -34,6 +36,34 @@ impl Reported {
 // The header, and a line for each row of an accepted sheet.
 fn put_rows(
     list: &[u8],
+    kinds: &[u8],
+    operands: &[u32],
+    variables: usize,
+    sheet: &[u8],
+    names: Names,
+    out: &mut [u8],
+) -> usize
+    requires { ⌜ Tabled (now list) (now kinds) (now operands) variables × Given (now sheet) names variables ⌝ }
+    ensures { λ r. ⌜ Printed (header ++ rows-of (commands (now (list .entry))) (split-lines (now (sheet .entry))))
+        (now (out .entry)) (now (out .exit)) r ⌝ }
+{
+    let mut place = put_header(&mut *out);
+    let mut at = sheet::first_row(sheet);
+    let mut n: usize = 2;
+    while at < sheet.len() {
+        let line = sheet::row(sheet, names, 1024, n, at);
+        let values = line.values;
+        let row = run_row(list, kinds, operands, variables, values);
+        place = put_row(&mut *out, place, row);
+        at = line.next;
+        n += 1;
+    }
+    place
+}
+
+// The same for the program's word, which is read once for all rows. A refusal does not come: a word of the translation passes every rule.
+fn put_word_rows(
+    list: &[u8],
     word: &[u8],
     variables: usize,
     sheet: &[u8],
@@ -44,18 +74,20 @@ fn put_rows(
     ensures { λ r. ⌜ Printed (header ++ rows-of (commands (now (list .entry))) (split-lines (now (sheet .entry))))
         (now (out .entry)) (now (out .exit)) r ⌝ }
 {
-    let mut place = put_header(&mut *out);
-    let mut at = sheet::first_row(sheet);
-    let mut n: usize = 2;
-    while at < sheet.len() {
-        let line = sheet::row(sheet, names, 1024, n, at);
-        let values = line.values;
-        let row = run_row(list, word, variables, values);
-        place = put_row(&mut *out, place, row);
-        at = line.next;
-        n += 1;
+    let mut kinds = [0u8; Instruction::INSTRUCTIONS];
+    let mut operands = [0u32; Instruction::INSTRUCTIONS];
+    match word::read(word, &mut kinds, &mut operands) {
+        Read::Done(count) => put_rows(
+            list,
+            &kinds[..count],
+            &operands[..count],
+            variables,
+            sheet,
+            names,
+            out,
+        ),
+        Read::Refused(r) => put_refusal(out, r),
     }
-    place
 }
 
 // An accepted program and sheet: a word that is longer than the buffer is 19.
@@ -74,7 +106,7 @@ fn put_translated(
         Translated::Refused(r) => put_refusal(out, r),
         Translated::Done(size) => {
             let end = size.symbols;
-            put_rows(list, &word[..end], variables, sheet, names, out)
+            put_word_rows(list, &word[..end], variables, sheet, names, out)
         }
     }
 }

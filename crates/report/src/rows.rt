@@ -2,44 +2,60 @@
 use crate::fresh::fill;
 use crate::writing::Ended;
 use crate::writing::Row;
+use memory::Machine;
 use theory::End;
 ghost use mathlib.Core.Path.{_≡_};
 ghost use mathlib.Core.List.{List};
 ghost use Rattle.theory.specs.ProgramText.{Command, variables as variables-of};
 ghost use Rattle.theory.specs.Translation.{word-text};
+ghost use Rattle.theory.specs.TurnedDown.{word-entries};
 ghost use Rattle.theory.specs.RunTool.{tool-word};
 ghost use Rattle.theory.specs.Claims.{Accepted};
+ghost use Rattle.word.specs.Answers.{zipped};
 ghost use Rattle.report.specs.Fresh.{values-of, Starts};
-ghost use Rattle.report.specs.Rows.{word-ended, source-ended, ended-of, commands, Ready, Ran};
+ghost use Rattle.report.specs.Rows.{word-ended, source-ended, ended-of, commands, Tabled, Ran};
+
+// "budget 100,000 for the source and 1,000,000 for the word"
+const SOURCE_BUDGET: u32 = 100000;
+
+const WORD_BUDGET: u32 = 1000000;
 
 // How a word's run ended. A refusal does not come: a word of the translation passes every rule.
-fn of_word(ended: machine::Ended) -> Ended
+fn of_word(ended: memory::Ended) -> Ended
     ensures { λ r. ⌜ r ≡ word-ended ended ⌝ }
 {
     match ended {
-        machine::Ended::Ran(end, steps) => Ended { end, steps },
-        machine::Ended::Refused(_) => Ended {
+        memory::Ended::Ran(end, steps) => Ended { end, steps },
+        memory::Ended::Refused(_) => Ended {
             end: End::Spent,
             steps: 0,
         },
     }
 }
 
-// The word's run.
-fn run_word(word: &[u8], variables: usize, values: [u32; 32]) -> Ended
+// The word's run, of its instructions.
+fn run_word(kinds: &[u8], operands: &[u32], variables: usize, values: [u32; 32]) -> Ended
     requires { ⌜ Starts variables values ⌝ }
-    ensures { λ r. ⌜ ((p : List Command) → Accepted p → now (word .entry) ≡ word-text p → variables ≡ variables-of p
-        → r ≡ ended-of (tool-word p (values-of values))) ⌝ }
+    ensures { λ r. ⌜ ((p : List Command) → Accepted p → zipped (now (kinds .entry)) (now (operands .entry)) ≡ word-entries (word-text p)
+        → variables ≡ variables-of p → r ≡ ended-of (tool-word p (values-of values))) ⌝ }
 {
     let mut store = [0u8; 65536];
-    let mut lengths = [0u16; 64];
+    let mut lengths = [0u16; Machine::REGISTERS];
     fill(&mut store, &mut lengths, values, variables);
-    let m = machine::Machine {
-        registers: 64,
-        capacity: 1024,
+    let m = Machine {
+        registers: Machine::REGISTERS,
+        capacity: Machine::CAPACITY,
     };
-    let at = machine::Position::fresh();
-    let run = machine::run(m, &mut store, &mut lengths, at, word, 1000000);
+    let at = memory::Position::fresh();
+    let run = engine::run_numbers(
+        m,
+        &mut store,
+        &mut lengths,
+        at,
+        kinds,
+        operands,
+        WORD_BUDGET,
+    );
     let ended = run.ended;
     of_word(ended)
 }
@@ -58,17 +74,23 @@ fn of_source(ended: source::Ended) -> Ended
 }
 
 // Both runs of a row.
-pub fn run_row(list: &[u8], word: &[u8], variables: usize, values: [u32; 32]) -> Row
-    requires { ⌜ Ready (now list) (now word) variables × Starts variables values ⌝ }
+pub fn run_row(
+    list: &[u8],
+    kinds: &[u8],
+    operands: &[u32],
+    variables: usize,
+    values: [u32; 32],
+) -> Row
+    requires { ⌜ Tabled (now list) (now kinds) (now operands) variables × Starts variables values ⌝ }
     ensures { λ r. ⌜ Ran (commands (now (list .entry))) (values-of values) r ⌝ }
 {
     let fresh = source::State::fresh(1024, values);
-    let run = source::run_list(list, fresh, 100000);
+    let run = source::run_list(list, fresh, SOURCE_BUDGET);
     let ended = run.ended;
     let state = run.state;
     let last = state.values;
     let source = of_source(ended);
-    let word = run_word(word, variables, values);
+    let word = run_word(kinds, operands, variables, values);
     Row {
         source,
         word,

@@ -84,7 +84,8 @@ pub sheet-unsized : (s : Bytes) (capacity K : ℕ) → is-sheet-size s ≡ false
 unfolding is-sheet-size sheet-answer sheet-fault sheet-size-fault
 sheet-unsized s capacity K h = rw h
 
-names-some : (l : Bytes) (ls : List Bytes) (ns : List ℕ) → names l ≡ some ns → names-of (l ∷ ls) ≡ ns
+-- The names of a sheet whose first line has names
+pub names-some : (l : Bytes) (ls : List Bytes) (ns : List ℕ) → names l ≡ some ns → names-of (l ∷ ls) ≡ ns
 names-some l ls ns e = rw (e, names-of)
 
 sized-some : (s : Bytes) → is-sheet-size s ≡ true → 0 < length s

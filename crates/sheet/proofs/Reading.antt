@@ -10,7 +10,8 @@ use Rattle.theory.specs.Basics.{every}
 use Rattle.theory.specs.Text.{Bytes, blank, fields}
 use Rattle.sheet.specs.declared.fields.Spelled.the-variants.{Nothing, Number}
 use Rattle.sheet.specs.declared.fields.Line.{Line}
-use Rattle.sheet.specs.Lines.{before, most, spelled, field-of, numbers-of, no-numbers, line-of, with-number}
+use Rattle.sheet.specs.Lines.{most, spelled, field-of, numbers-of, no-numbers, line-of, with-number}
+use Rattle.text.specs.Runs.{before}
 use Rattle.sheet.proofs.Splits.{before-within, fields-from, fields-none, fields-whole, fields-end, fields-next}
 use Rattle.sheet.proofs.Numbers.{every-more, every-fails}
 use Rattle.sheet.proofs.Padded.{line-more}

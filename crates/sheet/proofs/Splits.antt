@@ -1,53 +1,23 @@
--- Where a line or a field ends: laws of `before`, as a loop along the bytes needs them, and lines and fields that follow one another.
+-- Where a line or a field ends, and lines and fields that follow one another.
 use mathlib.Core.Path.{_≡_, refl, sym, ap, ap₂, _∙_}
 use mathlib.Core.Bool.{Bool, true, false, cond}
 use mathlib.Core.List.{List, [], _∷_}
 use Prim.Native.Nat.{ℕ, suc, _+_, _-_, _≤_, _<_, min}
-use native.Mathlib.Numerals.{add-one}
 use native.Mathlib.Omega.{arith}
 use lib.ListN.{length, take, drop, getD, length-drop, length-take, drop-of-length-le}
 use lib.Seq.{drop-cons, drop-drop, drop-length}
 use lib.Dec.{eqb, leb, ltb, leb·suc-suc}
-use borrow.Author.Tests.{eq-eqb, ne-eqb, le-leb, lt-leb, lt-ltb, ltb-true, ltb-false}
+use borrow.Author.Tests.{le-leb, lt-leb, lt-ltb, ltb-true, ltb-false}
 use Rattle.theory.specs.Text.{Bytes, LF, blank, onto-first, split-lines, split-blanks, fields}
 use Rattle.sheet.specs.Answers.{head-line, line-at, after-line}
-use Rattle.sheet.specs.Lines.{before}
+use Rattle.text.specs.Runs.{leading, is-other, before}
+use Rattle.text.proofs.Runs.{leading-length, leading-within}
 
-module _ (separator : ℕ) where
-  before-stop : (b : ℕ) (t : Bytes) → eqb b separator ≡ true → before separator (b ∷ t) ≡ 0
-  unfolding before
-  before-stop b t h = rw h
+pub before-within : (separator : ℕ) (t : Bytes) (i : ℕ) → i ≤ length t → i + before separator (drop i t) ≤ length t
+before-within separator = leading-within (is-other separator)
 
-  before-more : (b : ℕ) (t : Bytes) → eqb b separator ≡ false → before separator (b ∷ t) ≡ suc (before separator t)
-  unfolding before
-  before-more b t h = rw h
-
-  before-nil : before separator [] ≡ 0
-  unfolding before
-  before-nil = refl
-
-  before-length : (t : Bytes) → before separator t ≤ length t
-  unfolding before
-  before-length [] = omega arith
-  before-length (b ∷ t) = go (eqb b separator) refl (before-length t)
-    where
-      go : (x : Bool) → eqb b separator ≡ x → before separator t ≤ length t → before separator (b ∷ t) ≤ length (b ∷ t)
-      go true e h = rw e (omega arith)
-      go false e h = rw e (omega arith)
-
-  -- From a place on
-  module _ (t : Bytes) (i : ℕ) where
-    pub before-here : i < length t → getD t i 0 ≡ separator → before separator (drop i t) ≡ 0
-    before-here h e = rw (drop-cons t i 0 h) (before-stop (getD t i 0) (drop (suc i) t) (eq-eqb _ _ e))
-
-    pub before-next : i < length t → (getD t i 0 ≡ separator → ⊥) → before separator (drop i t) ≡ suc (before separator (drop (i + 1) t))
-    before-next h e = rw (drop-cons t i 0 h, add-one i) (before-more (getD t i 0) (drop (suc i) t) (ne-eqb _ _ e))
-
-    pub before-end : length t ≤ i → before separator (drop i t) ≡ 0
-    before-end h = rw (drop-of-length-le t h) before-nil
-
-    pub before-within : i ≤ length t → i + before separator (drop i t) ≤ length t
-    before-within h = omega (arith, before-length (drop i t), length-drop i t)
+before-length : (separator : ℕ) (t : Bytes) → before separator t ≤ length t
+before-length separator = leading-length (is-other separator)
 
 -- Lines
 
@@ -56,7 +26,7 @@ abbrev first-line : Bytes → List Bytes
 first-line t = take (before LF t) t ∷ split-lines (drop (suc (before LF t)) t)
 
 lines-first : (b : ℕ) (t : Bytes) → split-lines (b ∷ t) ≡ first-line (b ∷ t)
-unfolding split-lines before
+unfolding split-lines leading
 lines-first b [] = go (eqb b LF) refl
   where
     go : (x : Bool) → eqb b LF ≡ x → split-lines (b ∷ []) ≡ first-line (b ∷ [])
@@ -69,7 +39,7 @@ lines-first b (c ∷ t) = go (eqb b LF) refl (lines-first c t)
     go false e h = rw e (ap {B = List Bytes} (onto-first b) h)
 
 head-of : (t : Bytes) → head-line (split-lines t) ≡ take (before LF t) t
-unfolding split-lines before
+unfolding split-lines leading
 head-of [] = refl
 head-of (b ∷ t) = ap head-line (lines-first b t)
 
@@ -144,7 +114,7 @@ behind-blank : ℕ → Bytes → List Bytes
 behind-blank n t = cond (ltb n (length t)) (split-blanks (drop (suc n) t)) []
 
 blanks-first : (t : Bytes) → split-blanks t ≡ take (before blank t) t ∷ behind-blank (before blank t) t
-unfolding split-blanks before behind-blank
+unfolding split-blanks leading behind-blank
 blanks-first [] = refl
 blanks-first (b ∷ t) = go (eqb b blank) refl (blanks-first t)
   where

@@ -2,16 +2,18 @@
 use mathlib.Core.Path.{_≡_}
 use mathlib.Core.Bool.{Bool, true, false, cond, _&&_}
 use mathlib.Core.Option.{Option, none, some}
-use mathlib.Core.List.{List, [], _∷_, map}
-use Prim.Native.Nat.{ℕ, suc, _+_, _<_, min}
+use mathlib.Core.List.{List, [], map}
+use Prim.Native.Nat.{ℕ, _+_, _<_, min}
 use lib.ListN.{length, getD, take, set}
 use lib.Dec.{eqb, leb, ltb}
 use Rattle.theory.specs.Limits
 use Rattle.theory.specs.Basics.{every, all}
-use Rattle.theory.specs.Text.{Bytes, is-digit, value-after, numeral, name, fields, ends-in-LF}
+use Rattle.theory.specs.Text.{Bytes, numeral, name, fields, ends-in-LF}
 use Rattle.theory.specs.RunSheet.{whole, values, distinct}
 use Rattle.theory.specs.TurnedDown.{values-fault, rows-fault}
 use Rattle.theory.specs.declared.Refusal.{Refusal}
+use Rattle.text.specs.declared.read.Number.{Number as Told}
+use Rattle.text.specs.declared.read.Number.the-variants.{To, No}
 use Rattle.sheet.specs.declared.answers.Fault.{Fault}
 use Rattle.sheet.specs.declared.answers.Fault.the-variants as F
 use Rattle.sheet.specs.declared.answers.Checked.{Checked}
@@ -21,11 +23,6 @@ use Rattle.sheet.specs.declared.fields.Spelled.the-variants.{Nothing, Nu
 use Rattle.sheet.specs.declared.fields.Line.{Line}
 use Rattle.sheet.specs.declared.Scanned.{Scanned}
 use Rattle.sheet.specs.Answers.{padded, line-at, after-line, fault-as}
-
--- How many bytes stand before the first that is a separator
-unfoldable pub before : ℕ → Bytes → ℕ
-before separator [] = 0
-before separator (b ∷ t) = cond (eqb b separator) 0 (suc (before separator t))
 
 -- Fields
 
@@ -37,9 +34,10 @@ abbrev pub spelled : Option ℕ → Spelled
 spelled none = Nothing
 spelled (some n) = Number (min n most)
 
--- Digits alone, leading zeros allowed
-unfoldable pub digits-number : Bytes → Option ℕ
-digits-number t = cond (all is-digit t) (some (value-after 0 t)) none
+-- What was found at the front of a text of so many bytes, where that is all of it
+abbrev pub all-of : ℕ → Told → Spelled
+all-of size (To end value) = cond (ltb end size) Nothing (Number value)
+all-of size No = Nothing
 
 -- A field is a name, in the line of names, or a numeral
 abbrev pub field-of : Bool → Bytes → Option ℕ

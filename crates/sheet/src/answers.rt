@@ -3,7 +3,7 @@ use theory::Refusal;
 
 // The names line of a sheet, read: the variables of the columns in order, the first `count` of the array.
 pub struct Names {
-    pub columns: [u8; 32],
+    pub columns: [u8; Names::COLUMNS],
     pub count: usize,
 }
 
@@ -35,7 +35,7 @@ pub enum Fault {
 
 // A line of values, read: the values that the 32 variables start at, the byte behind the line, and why it is turned down, if it is.
 pub struct Row {
-    pub values: [u32; 32],
+    pub values: [u32; Names::COLUMNS],
     pub next: usize,
     pub fault: Fault,
 }

@@ -1,10 +1,13 @@
-// Where a line or a field ends, the number that a field spells, and the numbers of a line.
+// The number that a field spells, and the numbers of a line.
 use crate::answers::Names;
+use text::read::Number;
+use text::read::find;
+use text::read::name;
+use text::read::numeral;
 ghost use mathlib.Core.Path.{_≡_};
 ghost use mathlib.Core.Bool.{true, false};
-ghost use Prim.Native.Nat.{_+_, _*_, _^_, _≤_, _<_, min};
-ghost use lib.ListN.{length, drop};
-ghost use Rattle.sheet.specs.Lines.{before, most, spelled, digits-number, field-of, numbers-of};
+ghost use Prim.Native.Nat.{_^_, _≤_, _<_, min};
+ghost use Rattle.sheet.specs.Lines.{most, spelled, all-of, field-of, numbers-of};
 ghost use Rattle.sheet.specs.Lines.{under, put-in, no-numbers, line-of, with-number};
 
 // The number that a field spells, of any size: kept at MOST where it is larger, which is above any capacity.
@@ -19,7 +22,7 @@ impl Spelled {
 
 // The numbers of a line: the first 32, and how many there are. `below` says that all are below a bound; one that isn't is kept as 0.
 pub struct Line {
-    pub numbers: [u32; 32],
+    pub numbers: [u32; Names::COLUMNS],
     pub count: usize,
     pub shaped: bool,
     pub below: bool,
@@ -31,86 +34,31 @@ pub fn least(a: usize, b: usize) -> usize
     if a < b { a } else { b }
 }
 
-// Where the line or the field that begins at `at` ends.
-pub fn end_of(text: &[u8], at: usize, separator: u8) -> usize
-    requires { ⌜ at ≤ length (now text) ⌝ }
-    ensures { λ r. ⌜ r ≡ at + before separator (drop at (now (text .entry))) ⌝ }
+// The number that a text of so many bytes is as a whole, where it begins with one.
+fn whole(size: usize, found: Number) -> Spelled
+    ensures { λ r. ⌜ r ≡ all-of size found ⌝ }
 {
-    let mut i = at;
-    while i < text.len() {
-        if text[i] == separator {
-            return i;
+    match found {
+        Number::To { end, value } => {
+            if end < size {
+                Spelled::Nothing
+            } else {
+                Spelled::Number(value)
+            }
         }
-        i += 1;
-    }
-    i
-}
-
-// A number with one digit more.
-fn grown(value: u64, digit: u8) -> u64
-    requires { ⌜ (value ≤ most) × (digit < 10) ⌝ }
-    ensures { λ r. ⌜ r ≡ min (value * 10 + digit) most ⌝ }
-{
-    let next = value * 10 + digit as u64;
-    if next < Spelled::MOST {
-        next
-    } else {
-        Spelled::MOST
+        Number::No => Spelled::Nothing,
     }
 }
 
-// The number of a text of digits alone.
-fn digits(text: &[u8]) -> Spelled
-    ensures { λ r. ⌜ r ≡ spelled (digits-number (now (text .entry))) ⌝ }
-{
-    let mut value: u64 = 0;
-    let mut i: usize = 0;
-    while i < text.len() {
-        let b = text[i];
-        if b < b'0' {
-            return Spelled::Nothing;
-        }
-        if b'9' < b {
-            return Spelled::Nothing;
-        }
-        value = grown(value, b - b'0');
-        i += 1;
-    }
-    Spelled::Number(value)
-}
-
-// A numeral with no leading zero.
-fn numeral(text: &[u8]) -> Spelled
-    ensures { λ r. ⌜ r ≡ spelled (field-of false (now (text .entry))) ⌝ }
-{
-    if text.len() == 0 {
-        return Spelled::Nothing;
-    }
-    if 1 < text.len() {
-        if text[0] == b'0' {
-            return Spelled::Nothing;
-        }
-    }
-    digits(text)
-}
-
-// X and a numeral.
-fn name(text: &[u8]) -> Spelled
-    ensures { λ r. ⌜ r ≡ spelled (field-of true (now (text .entry))) ⌝ }
-{
-    if text.len() == 0 {
-        return Spelled::Nothing;
-    }
-    if text[0] != b'X' {
-        return Spelled::Nothing;
-    }
-    numeral(&text[1..])
-}
-
+// A field: a name, or a numeral.
 fn field(text: &[u8], named: bool) -> Spelled
     ensures { λ r. ⌜ r ≡ spelled (field-of named (now (text .entry))) ⌝ }
 {
-    if named { name(text) } else { numeral(text) }
+    if named {
+        whole(text.len(), name(text, 0, Spelled::MOST))
+    } else {
+        whole(text.len(), numeral(text, 0, Spelled::MOST))
+    }
 }
 
 // A number that is below the bound; 0 for any other.
@@ -122,7 +70,7 @@ fn bounded(n: u64, bound: u64) -> u32
 }
 
 // The numbers with one at a place; they stay as they are where that is past the last.
-fn placed(mut numbers: [u32; 32], at: usize, n: u32) -> [u32; 32]
+fn placed(mut numbers: [u32; Names::COLUMNS], at: usize, n: u32) -> [u32; Names::COLUMNS]
     ensures { λ r. ⌜ r ≡ put-in numbers at n ⌝ }
 {
     if at < Names::COLUMNS {
@@ -137,7 +85,7 @@ impl Line {
         ensures { λ r. ⌜ r ≡ no-numbers shaped ⌝ }
     {
         Line {
-            numbers: [0; 32],
+            numbers: [0; Names::COLUMNS],
             count: 0,
             shaped,
             below: true,
@@ -180,7 +128,7 @@ pub fn read_line(text: &[u8], named: bool, bound: u64) -> Line
     let mut line = Line::none(true);
     let mut at: usize = if text.len() == 0 { 1 } else { 0 };
     while at <= text.len() {
-        let end = end_of(text, at, b' ');
+        let end = find(text, at, b' ');
         match field(&text[at..end], named) {
             Spelled::Nothing => return Line::none(false),
             Spelled::Number(n) => line = line.with(n, bound),

@@ -13,9 +13,9 @@ use columns::are_distinct;
 use columns::narrowed;
 use columns::spread;
 use fields::Line;
-use fields::end_of;
 use fields::least;
 use fields::read_line;
+use text::read::find;
 use theory::Refusal;
 ghost use mathlib.Core.Path.{_≡_};
 ghost use mathlib.Core.Option.{some};
@@ -28,7 +28,7 @@ ghost use Rattle.sheet.specs.Lines.{fault-of, line-fault, names-line-fau
 
 // The numbers of a line of values, before they go to their variables.
 struct Scanned {
-    numbers: [u32; 32],
+    numbers: [u32; Names::COLUMNS],
     next: usize,
     fault: Fault,
 }
@@ -83,7 +83,7 @@ fn scan(sheet: &[u8], count: usize, capacity: u32, n: usize, at: usize) -> Scann
     ensures { λ r. ⌜ Scans (now (sheet .entry)) count capacity n at r ⌝ }
 {
     let from = least(at, sheet.len());
-    let end = end_of(sheet, from, b'\n');
+    let end = find(sheet, from, b'\n');
     let line = read_line(&sheet[from..end], false, capacity as u64 + 1);
     let numbers = line.numbers;
     Scanned {
@@ -119,7 +119,7 @@ fn refused(r: Refusal) -> Sheet
 {
     Sheet {
         names: Names {
-            columns: [0; 32],
+            columns: [0; Names::COLUMNS],
             count: 0,
         },
         checked: Checked::Refused(r),
@@ -149,7 +149,7 @@ pub fn check(sheet: &[u8], variables: usize, capacity: u32) -> Sheet
             place: 0,
         });
     }
-    let end = end_of(sheet, 0, b'\n');
+    let end = find(sheet, 0, b'\n');
     let line = read_line(
         &sheet[0..end],
         true,
@@ -196,7 +196,7 @@ pub fn row(sheet: &[u8], names: Names, capacity: u32, n: usize, at: usize) -> Ro
             }
         }
         Fault::Refused(r) => Row {
-            values: [0; 32],
+            values: [0; Names::COLUMNS],
             next: line.next,
             fault: Fault::Refused(r),
         },
@@ -207,5 +207,5 @@ pub fn row(sheet: &[u8], names: Names, capacity: u32, n: usize, at: usize) -> Ro
 pub fn first_row(sheet: &[u8]) -> usize
     ensures { λ r. ⌜ r ≡ after-line (now (sheet .entry)) 0 ⌝ }
 {
-    least(end_of(sheet, 0, b'\n') + 1, sheet.len())
+    least(find(sheet, 0, b'\n') + 1, sheet.len())
 }

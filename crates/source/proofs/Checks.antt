@@ -2,8 +2,7 @@
 use mathlib.Core.Path.{_≡_, refl, sym, ap, _∙_}
 use mathlib.Core.Bool.{Bool, true, false, _&&_}
 use mathlib.Core.List.{List}
-use Prim.Native.Nat.{ℕ, zero, suc, pred, _+_, _-_, _≤_, _<_}
-use native.Mathlib.Decide.{ℕ-discrete}
+use Prim.Native.Nat.{ℕ, suc, pred, _+_, _-_, _≤_, _<_}
 use native.Mathlib.Numerals.{add-one}
 use native.Mathlib.Omega.{arith}
 use borrow.Author.Tests.{lt-ltb, le-ltb, le-leb, lt-leb, leb-true, eqb-true}
@@ -52,14 +51,6 @@ some-passes capacity D d k h z = rw (lt-ltb d D h, le-leb 1 k z)
 -- A test of every number below n, from the first on
 pub all-one-more : (f : ℕ → Bool) (i : ℕ) → all-below i f ≡ true → f i ≡ true → all-below (i + 1) f ≡ true
 all-one-more f i h e = rw (add-one i, h) e
-
-pub all-but-one : (f : ℕ → Bool) (n i : ℕ) → i < n → f i ≡ false → all-below n f ≡ false
-all-but-one f zero i h e = absurd (omega arith)
-all-but-one f (suc n) i h e = go (ℕ-discrete i n) (all-but-one f n i)
-  where
-    go : Dec (i ≡ n) → (i < n → f i ≡ false → all-below n f ≡ false) → (all-below n f && f n) ≡ false
-    go (yes q) before = rw (← q, e) (and-false (all-below i f))
-    go (no q) before = rw (before (omega arith) e)
 
 -- The loops around a line, by its entry
 module _ (l es : List ℕ) (lines line : ℕ) (d : Deep l es lines line) where

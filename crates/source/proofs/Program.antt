@@ -1,22 +1,21 @@
 -- The accepted program that a list holds, line by line: the command there, its indices, its partner, and the pairs open.
 use mathlib.Core.Path.{_≡_, refl, sym, ap, _∙_}
 use mathlib.Core.Option.{some, Option·none-ne-some}
-use mathlib.Core.List.{List, [], _∷_, map}
+use mathlib.Core.List.{List, [], _∷_}
 use Prim.Native.Nat.{ℕ, zero, suc, _+_, _*_, _≤_, _<_}
-use native.Mathlib.Nat.{add-zero, add-suc, suc-add}
-use native.Mathlib.Numerals.{one-add}
 use native.Mathlib.Omega.{arith}
-use lib.ListN.{length, getD, getElem?, take, length-map}
+use lib.ListN.{length, getD, getElem?, take}
 use Rattle.theory.specs.Limits.{most-lines, most-index, most-open}
 use Rattle.theory.specs.Basics.{at}
 use Rattle.theory.specs.ProgramText.{Kind, loop, while, clear, increment, copy, Command, plain, opens, closes, indices, above}
-use Rattle.theory.specs.ProgramText.{numbers, list-of, lines, block-of}
-use Rattle.theory.specs.Source.{Opening, closed, open-after, open-at, deeper, loops, depth}
-use Rattle.theory.specs.TurnedDown.{Open}
-use Rattle.theory.specs.Claims.{Accepted, EachOf}
-use Rattle.theory.proofs.Nesting.{short, sound, low, LowIndices, LinesSound, lines-sound, few-open, one-open, well-nested}
-use Rattle.theory.proofs.Partners.{Known, known, depth-end}
+use Rattle.theory.specs.ProgramText.{numbers, list-of, Opening, open-next, lines, block-of}
+use Rattle.theory.specs.Source.{open-after, open-at, deeper, loops, depth}
+use Rattle.theory.specs.Claims.{Accepted}
+use Rattle.theory.proofs.Nesting.{short, sound, low, LowIndices, LinesSound, lines-sound, few-open, well-nested}
+use Rattle.theory.proofs.Cells.{each-at}
+use Rattle.theory.proofs.Partners.{Known, known, open-on, depth-end}
 use Rattle.theory.proofs.Lists.{listed-list, present-some}
+use Rattle.program.proofs.Lists.{list-length}
 use Rattle.source.specs.Lines.{program, Holds, decoded, command-at}
 
 -- The list of an accepted program holds it
@@ -76,35 +75,12 @@ kind-range (c ∷ p) (suc m) h =
     let x : Numbered c = numbered c in
     rw (x .are, three-on (x .k) (x .i) (x .j) (list-of p) (3 * m) (3 * suc m) (omega arith)) (kind-range p m (omega arith))
 
-pub list-length : (p : List Command) → length (list-of p) ≡ 3 * length p
-unfolding list-of
-list-length [] = refl
-list-length (c ∷ p) = rw (numbered c .are) (omega (arith, list-length p))
-
--- The pairs open after one line more
-open-one : (p : List Command) (m n : ℕ) (os : List Opening) (c : Command) → getElem? p m ≡ some c
-    → open-after (take (suc m) p) n os ≡ open-after (c ∷ []) (n + m) (open-after (take m p) n os)
-open-one [] m n os c e = absurd (Option·none-ne-some c e)
-open-one (x ∷ p) zero n os c e = let same : x ≡ c = cc in rw (add-zero, same)
-open-one (plain x ∷ p) (suc m) n os c e = rw (add-suc, ← suc-add) (open-one p m (suc n) os c e)
-open-one (opens k i ∷ p) (suc m) n os c e = rw (add-suc, ← suc-add) (open-one p m (suc n) (record { line = n; kind = k } ∷ os) c e)
-open-one (closes k i ∷ p) (suc m) n os c e = rw (add-suc, ← suc-add) (open-one p m (suc n) (closed os) c e)
-
--- Rule 6, of a line: the pairs with their indices, as rule 7 goes by them, are those open there
-shown : Open → Opening
-shown o = record { line = o .line; kind = o .kind }
-
-room : (p : List Command) (n : ℕ) (os : List Open) → LinesSound n os p → (m : ℕ) (k : Kind) (i : ℕ) → getElem? p m ≡ some (opens k i)
-    → length (open-after (take m p) n (map shown os)) < most-open
-unfolding shown
+-- Rule 6, of a line
+room : (p : List Command) (n : ℕ) (os : List Opening) → LinesSound n os p → (m : ℕ) (k : Kind) (i : ℕ) → getElem? p m ≡ some (opens k i)
+    → length (open-after (take m p) n os) < most-open
 room [] n os h m k i e = absurd (Option·none-ne-some (opens k i) e)
-room (x ∷ p) n os h zero k i e =
-    let same : x ≡ opens k i = cc in
-    rw (length-map os shown) (few-open n os k i (rw same at (h .0)))
-room (plain x ∷ p) n os h (suc m) k i e = room p (suc n) os (h .1) m k i e
-room (opens l j ∷ p) n os h (suc m) k i e = room p (suc n) (record { line = n; kind = l; index = j } ∷ os) (h .1) m k i e
-room (closes l j ∷ p) n [] h (suc m) k i e = absurd (one-open n l j (h .0))
-room (closes l j ∷ p) n (o ∷ os) h (suc m) k i e = room p (suc n) os (h .1) m k i e
+room (x ∷ p) n os h zero k i e = let same : x ≡ opens k i = cc in few-open n os k i (rw same at (h .0))
+room (x ∷ p) n os h (suc m) k i e = room p (suc n) (open-next n os x) (h .1) m k i e
 
 loops-within : (os : List Opening) → loops os ≤ length os
 loops-within [] = omega arith
@@ -113,11 +89,6 @@ loops-within (o ∷ os) = go (o .kind) (loops-within os)
     go : (k : Kind) → loops os ≤ length os → deeper k (loops os) ≤ suc (length os)
     go loop h = omega arith
     go while h = omega arith
-
-each-of : {A : Type 0} (P : A → Type 0) (l : List A) (m : ℕ) (x : A) → EachOf P l → getElem? l m ≡ some x → P x
-each-of P [] m x h e = absurd (Option·none-ne-some x e)
-each-of P (y ∷ l) zero x h e = let same : y ≡ x = cc in rw (← same) (h .0)
-each-of P (y ∷ l) (suc m) x h e = each-of P l m x (h .1) e
 
 module _ (l : List ℕ) (h : Holds l) where
   pub few-lines : length (program l) ≤ most-lines
@@ -158,8 +129,7 @@ module _ (l : List ℕ) (h : Holds l) (m : ℕ) (inside : m < length (program l)
       rw nested at (known (block-of (program l)) (suc m) (command-at l m) (rw nested here))
 
   pub low-indices : above (indices (command-at l m)) ≤ suc most-index
-  low-indices = each-of LowIndices (program l) m (command-at l m) (low (program l) (h .accepted)) here
+  low-indices = each-at LowIndices (program l) m (command-at l m) (low (program l) (h .accepted)) here
 
-  pub open-more : open-at (program l) (suc (suc m)) ≡ open-after (command-at l m ∷ []) (suc m) (open-at (program l) (suc m))
-  unfolding open-at
-  open-more = rw one-add at (open-one (program l) m 1 [] (command-at l m) here)
+  pub open-more : open-at (program l) (suc (suc m)) ≡ open-next (suc m) (open-at (program l) (suc m)) (command-at l m)
+  open-more = open-on (program l) (suc m) (command-at l m) here

@@ -7,17 +7,19 @@ use native.Mathlib.Omega.{arith}
 use borrow.Author.Tests.{le-leb}
 use lib.ListN.{length, take, drop}
 use lib.Seq.{take-at}
+use Rattle.theory.specs.TurnedDown.{read-program-into}
 use Rattle.theory.specs.ProgramText.{Command, variables, list-of}
 use Rattle.theory.specs.TurnedDown.{Answer, done, refused, answer, after, mapped, read-text, read-list, rule-19, lent-after}
 use Rattle.theory.specs.Claims.{Accepted}
 use Rattle.theory.specs.declared.Refusal.{Refusal}
 use Rattle.theory.proofs.Nesting.{short, list-read, reads-accepted}
 use Rattle.theory.proofs.Lists.{lists-round-trip}
-use Rattle.program.specs.Answers.{program-of, checked, read-into}
+use Rattle.program.specs.Answers.{program-of, checked}
 use Rattle.program.specs.declared.Program.{Program}
 use Rattle.program.specs.declared.Checked.the-variants as C
+use Rattle.program.proofs.Lists.{list-length}
 use Rattle.source.specs.Lines.{program, Holds, Given}
-use Rattle.source.proofs.Program.{list-length, program-list, holds-list}
+use Rattle.source.proofs.Program.{program-list, holds-list}
 
 -- An accepted answer, and a refused one
 pub record AcceptedAs (a : Answer (List Command)) (x : Program) : Type 0 where
@@ -64,8 +66,8 @@ module _ (lent : List ℕ) (t : List ℕ) (size : length lent ≡ 1536) where
       let few : length (list-of p) ≤ length lent = omega (arith, list-length p, short p h) in
       rw (le-leb (length (list-of p)) (length lent) few)
 
-  pub buffer-read : read-into lent t ≡ read-text t
-  unfolding read-into
+  pub buffer-read : read-program-into lent t ≡ read-text t
+  unfolding read-program-into
   buffer-read = go (read-text t) refl
     where
       go : (a : Answer (List Command)) → read-text t ≡ a → after a (λ p. answer (rule-19 lent (list-of p)) p) ≡ a
@@ -74,7 +76,7 @@ module _ (lent : List ℕ) (t : List ℕ) (size : length lent ≡ 1536) where
 
   -- What stands in the buffer then, of an accepted text
   module _ (x : Program) (a : AcceptedAs (read-text t) x) (last : List ℕ)
-      (stored : last ≡ lent-after lent (mapped list-of (read-into lent t))) where
+      (stored : last ≡ lent-after lent (mapped list-of (read-program-into lent t))) where
     abbrev p : List Command
     p = a .commands
 

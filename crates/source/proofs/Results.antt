@@ -11,10 +11,10 @@ use Rattle.theory.specs.ProgramText.{Command}
 use Rattle.theory.specs.Runs.{run}
 use Rattle.theory.specs.Source as S
 use Rattle.theory.specs.Machines.{SourceState, run-source}
-use Rattle.theory.specs.TurnedDown.{refused, is-source, rule-9}
+use Rattle.theory.specs.TurnedDown.{refused, is-source, rule-9, run-from}
 use Rattle.theory.specs.declared.Refusal.{Refusal}
 use Rattle.theory.proofs.Budgets.{steps-within}
-use Rattle.source.specs.Answers.{stands, source-state, fresh-state, Fresh, run-from, ended-by, state-by, moved-by, HandsBack}
+use Rattle.source.specs.Answers.{stands, source-state, fresh-state, Fresh, ended-by, state-by, moved-by, HandsBack}
 use Rattle.source.specs.Lines.{program, machine-of, run-at, outcome-of}
 use Rattle.source.specs.declared.State.{State}
 use Rattle.source.specs.declared.Stop.{Stop}
@@ -49,7 +49,7 @@ unfolding ended-by state-by moved-by
 refused-back s x = record { ended = refl; state = refl; stands = refl }
 
 pub rule-9-back : (s : State) (budget : ℕ) (p : List Command) → is-source p (source-state s) ≡ false
-    → HandsBack s (run-from s budget p) (record { state = s; ended = E.Refused (record { number = 9; place = 0 }) })
+    → HandsBack s (run-from (source-state s) budget p) (record { state = s; ended = E.Refused (record { number = 9; place = 0 }) })
 unfolding run-from rule-9
 rule-9-back s budget p e = rw e (refused-back s (record { number = 9; place = 0 }))
 
@@ -68,7 +68,7 @@ module _ (l : List ℕ) (s : State) (budget : ℕ) (r : Stop) (vs ps : List ℕ)
 
   pub run-back : s .steps ≤ last-count → is-source (program l) (source-state s) ≡ true
       → length vs ≡ state-values → length ps ≡ state-passes
-      → HandsBack s (run-from s budget (program l)) (record { state = stopped s r vs ps; ended = E.Ran (r .end) (r .taken) })
+      → HandsBack s (run-from (source-state s) budget (program l)) (record { state = stopped s r vs ps; ended = E.Ran (r .end) (r .taken) })
   unfolding run-from rule-9 run-source run-at ended-by state-by moved-by
   run-back counted good v p =
       let from : S.State = stands (s .line) (s .values) (s .passes) in

@@ -15,7 +15,7 @@ use Rattle.theory.specs.Basics.{at, put}
 use Rattle.theory.specs.ProgramText.{Command, plain, clear, increment, copy, opens, closes, loop, while, indices, above}
 use Rattle.theory.specs.Runs.{within}
 use Rattle.theory.specs.Source as S
-use Rattle.theory.specs.Source.{State, store, go-to, perform, end-loop, begin-loop, begin-while}
+use Rattle.theory.specs.Source.{State, set-variable, go-to, perform, end-loop, begin-loop, begin-while}
 use Rattle.theory.proofs.Cells.{put-cases}
 use Rattle.theory.proofs.Partners.{Known}
 use Rattle.source.specs.Answers.{stands}
@@ -30,7 +30,7 @@ put-set l i x h = fun-ext λ j. put-cases (λ j. getD l j 0) i x j (getD (set l 
     (λ e. rw e (sym (getD-set-same l i x 0 h)))
     (λ n. sym (getD-set-other l i j x 0 n))
 
-stored : (line : ℕ) (vs ps : List ℕ) (i x : ℕ) → i < length vs → store (stands line vs ps) i x ≡ stands (line + 1) (set vs i x) ps
+stored : (line : ℕ) (vs ps : List ℕ) (i x : ℕ) → i < length vs → set-variable (stands line vs ps) i x ≡ stands (line + 1) (set vs i x) ps
 stored line vs ps i x h =
     rw add-one (ap {B = State} (λ f. record { line = suc line; values = f; passes = λ d. getD ps d 0 }) (put-set vs i x h))
 

@@ -6,12 +6,13 @@ use Prim.Native.Nat.{ℕ, suc, _+_, _-_, _≤_, _<_}
 use native.Mathlib.Decide.{ℕ-discrete}
 use native.Mathlib.Numerals.{add-one}
 use native.Mathlib.Omega.{arith}
-use lib.ListN.{length, getD, set, length-set}
+use lib.ListN.{length, getD, set, drop, length-set}
 use lib.Seq.{getD-set-same, getD-set-other}
 use Rattle.theory.specs.Limits.{most-open}
 use Rattle.theory.specs.Basics.{at}
 use Rattle.theory.specs.ProgramText.{Plain, clear, increment, copy, Kind, loop, while, Command, plain, opens, closes}
-use Rattle.theory.specs.Source.{Opening, closed, innermost, open-at, opening, closing}
+use Rattle.theory.specs.ProgramText.{Opening, open-next}
+use Rattle.theory.specs.Source.{innermost, open-at, opening, closing}
 use Rattle.theory.proofs.Cells.{at-within}
 use Rattle.theory.proofs.Partners.{Known, Partners}
 use Rattle.source.specs.Lines.{program, Holds, command-at, Reaches}
@@ -31,13 +32,17 @@ stacked-set st i x (o ∷ os) h s =
 
 -- The innermost is on top
 pub record Top (st : List ℕ) (os : List Opening) : Type 0 where
-  pub count : length os ≡ suc (length (closed os))
-  pub line : innermost os ≡ suc (getD st (length (closed os)) 0)
-  pub rest : Stacked st (closed os)
+  pub count : length os ≡ suc (length (drop 1 os))
+  pub line : innermost os ≡ suc (getD st (length (drop 1 os)) 0)
+  pub rest : Stacked st (drop 1 os)
 
 top : (st : List ℕ) (os : List Opening) → 0 < innermost os → Stacked st os → Top st os
 top st [] h s = absurd (omega arith)
 top st (o ∷ os) h s = record { count = refl; line = s .0; rest = s .1 }
+
+pops : (n : ℕ) (os : List Opening) (k : Kind) (i : ℕ) → open-next n os (closes k i) ≡ drop 1 os
+pops n [] k i = refl
+pops n (o ∷ os) k i = refl
 
 -- The line after which a line's target is known
 abbrev due-by : List Command → ℕ → Command → ℕ
@@ -138,7 +143,7 @@ module _ (l : List ℕ) (h : Holds l) (n : ℕ) (inside : n < length (program l)
 
   pub linking-opens : (k : Kind) (i : ℕ) → command-at l n ≡ opens k i → deep < length st → Linking l (n + 1) (deep + 1) (set st deep n) ts
   linking-opens k i e room =
-      let next : open-at p (suc (n + 1)) ≡ record { line = suc n; kind = k } ∷ open-at p (suc n) =
+      let next : open-at p (suc (n + 1)) ≡ record { line = suc n; kind = k; index = i } ∷ open-at p (suc n) =
       rw (add-one n) (open-more l h n inside ∙ rw e) in
       let top-is : suc n ≡ suc (getD (set st deep n) (length (open-at p (suc n))) 0) =
       rw (← before .count) (ap suc (sym (getD-set-same st deep n 0 room))) in
@@ -168,7 +173,7 @@ module _ (l : List ℕ) (h : Holds l) (n : ℕ) (inside : n < length (program l)
         (omega (arith, pair .1 .opening-is, at-within p (pair .0) (opens k i) (pair .1 .open-line) .0))
         (before .stack)
 
-    depth-is : deep - 1 ≡ length (closed (open-at p (suc n)))
+    depth-is : deep - 1 ≡ length (drop 1 (open-at p (suc n)))
     depth-is = omega (arith, before .count, on-top .count)
 
     pub stack-open : 1 ≤ deep
@@ -228,7 +233,8 @@ module _ (l : List ℕ) (h : Holds l) (n : ℕ) (inside : n < length (program l)
 
     linking-closes : (x : ℕ) → n < length ts → Reaches p (suc n) (closes k i) x → Linking l (n + 1) (deep - 1) st (passed x)
     linking-closes x room here-due =
-        let next : open-at p (suc (n + 1)) ≡ closed (open-at p (suc n)) = rw (add-one n) (open-more l h n inside ∙ rw e) in
+        let next : open-at p (suc (n + 1)) ≡ drop 1 (open-at p (suc n)) =
+        rw (add-one n) (open-more l h n inside ∙ rw e (pops (suc n) (open-at p (suc n)) k i)) in
         record { count = rw next depth-is; stack = rw next (on-top .rest); targets = all-due x room here-due }
 
   pub linking-endloop : (i : ℕ) (e : command-at l n ≡ closes loop i) → n < length ts

@@ -5,11 +5,10 @@ use Prim.Native.Nat.{ℕ, _+_}
 use lib.ListN.{getD, replicate}
 use Rattle.theory.specs.Basics.{cells}
 use Rattle.theory.specs.Limits.{state-values, state-passes}
-use Rattle.theory.specs.ProgramText.{Command}
 use Rattle.theory.specs.Runs.{Outcome}
 use Rattle.theory.specs.Source as S
-use Rattle.theory.specs.Machines.{SourceState, fresh-source, run-source}
-use Rattle.theory.specs.TurnedDown.{Answer, done, refused, answer, rule-9}
+use Rattle.theory.specs.Machines.{SourceState, fresh-source}
+use Rattle.theory.specs.TurnedDown.{Answer, done, refused}
 use Rattle.source.specs.declared.State.{State}
 use Rattle.source.specs.declared.Run.{Run}
 use Rattle.source.specs.declared.Ended.{Ended}
@@ -33,10 +32,6 @@ fresh-from capacity values = record { capacity = capacity; steps = 0; state = fr
 pub record Fresh (capacity : ℕ) (values : List ℕ) (r : State) : Type 0 where
   pub state : r ≡ fresh-state capacity values
   pub stands : source-state r ≡ fresh-from capacity values
-
--- A program run from a state: rule 9, and then the run
-unfoldable pub run-from : State → ℕ → List Command → Answer (Outcome S.State)
-run-from s budget p = answer (rule-9 p (source-state s)) (run-source p (source-state s) budget)
 
 -- How it ended
 unfoldable pub ended-by : Answer (Outcome S.State) → Ended

@@ -4,8 +4,8 @@ ghost use mathlib.Core.Path.{_≡_};
 ghost use Prim.Native.Nat.{ℕ, _+_, _-_, _*_, _<_, _≤_, min};
 ghost use lib.ListN.{length, getD, set};
 ghost use Rattle.theory.specs.Source.{depth};
-ghost use Rattle.theory.specs.TurnedDown.{after, read-text, read-list, is-value, is-passes, is-source};
-ghost use Rattle.source.specs.Answers.{source-state, Fresh, run-from, HandsBack};
+ghost use Rattle.theory.specs.TurnedDown.{read-text, read-list, is-value, is-passes, is-source, run-from, run-program};
+ghost use Rattle.source.specs.Answers.{source-state, Fresh, HandsBack};
 ghost use Rattle.source.specs.Lines.{program, Given, Fits, Entered, Linked, Ready, Stepped, Startable, run-at, outcome-of};
 ghost use Rattle.source.specs.Lines.{all-values, all-passes, Deep};
 use program::Checked;
@@ -376,7 +376,7 @@ fn least(a: u32, b: u32) -> u32
 // A run of an accepted program: rule 9, and then the steps. Targets and entries are found here, once for the run.
 fn run_accepted(list: &[u8], lines: usize, variables: usize, state: State, budget: u32) -> Run
     requires { ⌜ Given (now list) lines variables ⌝ }
-    ensures { λ r. ⌜ HandsBack state (run-from state budget (program (now (list .entry)))) r ⌝ }
+    ensures { λ r. ⌜ HandsBack state (run-from (source-state state) budget (program (now (list .entry)))) r ⌝ }
 {
     let mut targets = [0u16; 512];
     let mut entries = [0u8; 512];
@@ -422,7 +422,7 @@ fn run_accepted(list: &[u8], lines: usize, variables: usize, state: State, budge
 
 // A run of a program handed in as a list: rules 3 to 8, and then 9.
 pub fn run_list(list: &[u8], state: State, budget: u32) -> Run
-    ensures { λ r. ⌜ HandsBack state (after (read-list (now (list .entry))) (run-from state budget)) r ⌝ }
+    ensures { λ r. ⌜ HandsBack state (run-program (read-list (now (list .entry))) (source-state state) budget) r ⌝ }
 {
     match program::check_list(list) {
         Checked::Accepted(p) => run_accepted(list, p.lines, p.variables, state, budget),
@@ -435,7 +435,7 @@ pub fn run_list(list: &[u8], state: State, budget: u32) -> Run
 
 // A run of a program handed in as text: rules 1 to 8, and then 9.
 pub fn run_text(text: &[u8], state: State, budget: u32) -> Run
-    ensures { λ r. ⌜ HandsBack state (after (read-text (now (text .entry))) (run-from state budget)) r ⌝ }
+    ensures { λ r. ⌜ HandsBack state (run-program (read-text (now (text .entry))) (source-state state) budget) r ⌝ }
 {
     let mut list = [0u8; 1536];
     match program::read(text, &mut list) {

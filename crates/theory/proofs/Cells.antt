@@ -2,7 +2,7 @@
 use mathlib.Core.Path.{_≡_, refl, sym, ap, _∙_, subst, fun-ext}
 use mathlib.Core.Logic.{_≢_}
 use mathlib.Core.Bool.{Bool, true, false, cond}
-use mathlib.Core.Option.{some, Option·none-ne-some}
+use mathlib.Core.Option.{some, Option·none-ne-some, Option·some-injective}
 use mathlib.Core.List.{List, [], _∷_, _++_}
 use Prim.Native.Nat.{ℕ, zero, suc, _+_, _≤_, _<_}
 use native.Mathlib.Nat.{add-zero, add-suc, suc-add}
@@ -10,7 +10,7 @@ use native.Mathlib.Omega.{arith}
 use lib.ListN.{length, getElem?}
 use lib.Dec.{eqb}
 use borrow.Author.Tests.{eqb-true, eqb-false, eq-eqb, ne-eqb}
-use Rattle.theory.specs.Basics.{at, put}
+use Rattle.theory.specs.Basics.{at, put, EachOf}
 
 module _ {A : Type 0} where
   pub put-same : (f : ℕ → A) (i : ℕ) (x : A) → put f i x i ≡ x
@@ -84,6 +84,12 @@ getElem-within (x ∷ l) (suc n) a e = omega (arith, getElem-within l n a e)
 pub at-within : {A : Type 0} (l : List A) (n : ℕ) (a : A) → at l n ≡ some a → (0 < n) × (n ≤ length l)
 at-within l zero a e = absurd (Option·none-ne-some a e)
 at-within l (suc n) a e = let h : n < length l = getElem-within l n a e in (omega arith, omega arith)
+
+-- and has what each element has
+pub each-at : {A : Type 0} (P : A → Type 0) (l : List A) (n : ℕ) (a : A) → EachOf P l → getElem? l n ≡ some a → P a
+each-at P [] n a h e = absurd (Option·none-ne-some a e)
+each-at P (x ∷ l) zero a h e = subst P (Option·some-injective x a e) (h .0)
+each-at P (x ∷ l) (suc n) a h e = each-at P l n a (h .1) e
 
 -- and something stands at each place within
 getElem-there : {A : Type 0} (l : List A) (n : ℕ) → n < length l → (a : A) × (getElem? l n ≡ some a)

@@ -1,19 +1,19 @@
 -- The layout of a machine's memory: what is laid down is read back, and what is read is laid down again. A run keeps a memory laid out.
 use mathlib.Core.Path.{_≡_, refl, sym, ap, ap₂, _∙_, subst}
 use mathlib.Core.Logic.{_≢_}
-use mathlib.Core.Bool.{Bool, true, false, cond, _&&_, false≢true}
+use mathlib.Core.Bool.{Bool, true, false, _&&_, false≢true}
 use mathlib.Core.Option.{Option, none, some, Option·none-ne-some, Option·some-injective}
 use mathlib.Core.List.{List, [], _∷_, _++_, map}
 use Prim.Native.Nat.{ℕ, zero, suc, _+_, _-_, _*_, _≤_, _<_}
 use native.Mathlib.Nat.{suc-mul, mul-le-mul-right, suc-sub-suc, sub-zero, zero-mul}
 use native.Mathlib.Omega.{arith}
 use lib.IntN.{ℤ, pos, negsuc}
-use lib.ListN.{length, getElem?, getD, take, drop, replicate, length-append, length-map, length-replicate, length-take, length-drop}
+use lib.ListN.{length, getD, take, drop, replicate, length-append, length-map, length-replicate, length-take, length-drop}
 use lib.ListN.{take-append-drop, List·getD-eq-default}
 use lib.Seq.{take-at, drop-at, take-all, take-append-le, drop-append-le, take-add, take-length, length-take-le, ext-getD}
 use lib.Dec.{eqb, ltb, leb}
 use borrow.Author.Tests.{eqb-true, eqb-false, eq-eqb, leb-true, le-leb, ltb-true, ltb-false}
-use Rattle.theory.specs.Basics.{cells, put, all, all-below}
+use Rattle.theory.specs.Basics.{cells, put, and-then, all, all-below, EachOf}
 use Rattle.theory.specs.Text.{Bytes}
 use Rattle.theory.specs.Limits.{most-registers, most-capacity}
 use Rattle.theory.specs.Runs.{within}
@@ -22,10 +22,11 @@ use Rattle.theory.specs.Word.{Symbol, one, hash, bytes-of, byte-of, symb
 use Rattle.theory.specs.Word.{Instruction, append, forward, backward, cases, operand}
 use Rattle.theory.specs.Machines.{Memory, Position, offset, laid, store-of, lengths-of, place-of, contents, refilled}
 use Rattle.theory.specs.Machines.{is-laid, is-limited, is-memory, run-word, word-state}
-use Rattle.theory.specs.Claims.{EachOf, NamesAtMost, MemoryStaysGood}
+use Rattle.theory.specs.Claims.{NamesAtMost, MemoryStaysGood}
 use Rattle.theory.proofs.Faults.{and-first, and-second, given-some}
-use Rattle.theory.proofs.Cells.{put-ind}
+use Rattle.theory.proofs.Cells.{put-ind, each-at}
 use Rattle.theory.proofs.Budgets.{run-keeps}
+use Rattle.theory.proofs.Words.{symbols-of-bytes, byte-of-symbol}
 
 -- Tests
 
@@ -56,6 +57,13 @@ pub all-below-from : (n : ℕ) (f : ℕ → Bool) → ((i : ℕ) → i < n → f
 all-below-from zero f h = refl
 all-below-from (suc n) f h = both (all-below n f) (f n) (all-below-from n f λ i l. h i (omega arith)) (h n (omega arith))
 
+pub all-below-fails : (n : ℕ) (f : ℕ → Bool) (i : ℕ) → i < n → f i ≡ false → all-below n f ≡ false
+all-below-fails n f i l e = go (all-below n f) refl
+  where
+    go : (t : Bool) → all-below n f ≡ t → t ≡ false
+    go false h = refl
+    go true h = absurd (false≢true (sym e ∙ all-below-at n f h i l))
+
 -- Cells
 
 pub length-cells : {A : Type 0} (n : ℕ) (f : ℕ → A) → length (cells n f) ≡ n
@@ -69,11 +77,6 @@ getD-cells (suc n) f d (suc i) l = getD-cells n (λ j. f (suc j)) d i (omega ari
 
 -- Symbols as bytes
 
-pub symbols-read : (xs : List Symbol) → map symbol-of (bytes-of xs) ≡ xs
-symbols-read [] = refl
-symbols-read (one ∷ xs) = ap {B = List Symbol} (λ l. one ∷ l) (symbols-read xs)
-symbols-read (hash ∷ xs) = ap {B = List Symbol} (λ l. hash ∷ l) (symbols-read xs)
-
 symbols-are : (xs : List Symbol) → all is-symbol (bytes-of xs) ≡ true
 symbols-are [] = refl
 symbols-are (one ∷ xs) = symbols-are xs
@@ -83,18 +86,10 @@ zeros-are : (n : ℕ) → all (eqb 0) (replicate n 0) ≡ true
 zeros-are zero = refl
 zeros-are (suc n) = zeros-are n
 
--- a byte that is a symbol is that symbol's byte
-symbol-written : (b : ℕ) → is-symbol b ≡ true → byte-of (symbol-of b) ≡ b
-symbol-written b = go (eqb b 49) refl
-  where
-    go : (t : Bool) → eqb b 49 ≡ t → cond t true (eqb b 35) ≡ true → byte-of (cond t one hash) ≡ b
-    go true e h = sym (eqb-true b 49 e)
-    go false e h = sym (eqb-true b 35 h)
-
 pub symbols-written : (l : Bytes) → all is-symbol l ≡ true → bytes-of (map symbol-of l) ≡ l
 symbols-written [] h = refl
 symbols-written (b ∷ l) h =
-    let first = symbol-written b (and-first (is-symbol b) (all is-symbol l) h) in
+    let first = byte-of-symbol b (and-first (is-symbol b) (all is-symbol l) h) in
     ap₂ {C = Bytes} (λ c m. c ∷ m) first (symbols-written l (and-second (is-symbol b) (all is-symbol l) h))
 
 zeros-written : (l : Bytes) → all (eqb 0) l ≡ true → replicate (length l) 0 ≡ l
@@ -185,18 +180,18 @@ offset-suc capacity i = rw (suc-sub-suc, sub-zero)
 
 -- What rule 10 asks, a fact at a time
 pub record Good (m : Memory) : Type 0 where
-  pub registers : is-limited most-registers (m .registers) ≡ true
+  pub registers : is-limited most-registers (m .count) ≡ true
   pub capacity : is-limited most-capacity (m .capacity) ≡ true
-  pub store : length (m .store) ≡ m .registers * m .capacity
-  pub lengths : length (m .lengths) ≡ m .registers
-  pub places : (i : ℕ) → i < m .registers → is-laid (m .capacity) (getD (m .lengths) i 0) (place-of m (suc i)) ≡ true
+  pub store : length (m .store) ≡ m .count * m .capacity
+  pub lengths : length (m .lengths) ≡ m .count
+  pub places : (i : ℕ) → i < m .count → is-laid (m .capacity) (getD (m .lengths) i 0) (place-of m (suc i)) ≡ true
 
 module _ (m : Memory) where
   abbrev sized : Bool
-  sized = eqb (length (m .store)) (offset (m .capacity) (suc (m .registers)))
+  sized = eqb (length (m .store)) (offset (m .capacity) (suc (m .count)))
 
   abbrev counted : Bool
-  counted = eqb (length (m .lengths)) (m .registers)
+  counted = eqb (length (m .lengths)) (m .count)
 
   abbrev laid-out : ℕ → Bool
   laid-out i = is-laid (m .capacity) (getD (m .lengths) i 0) (place-of m (suc i))
@@ -204,71 +199,71 @@ module _ (m : Memory) where
   pub good-is-memory : Good m → is-memory m ≡ true
   unfolding is-memory
   good-is-memory g =
-      let whole = g .store ∙ sym (offset-suc (m .capacity) (m .registers)) in
-      let size = eq-eqb (length (m .store)) (offset (m .capacity) (suc (m .registers))) whole in
-      let count = eq-eqb (length (m .lengths)) (m .registers) (g .lengths) in
-      rw (g .registers, g .capacity, size, count) (all-below-from (m .registers) laid-out (g .places))
+      let whole = g .store ∙ sym (offset-suc (m .capacity) (m .count)) in
+      let size = eq-eqb (length (m .store)) (offset (m .capacity) (suc (m .count))) whole in
+      let counts = eq-eqb (length (m .lengths)) (m .count) (g .lengths) in
+      rw (g .registers, g .capacity, size, counts) (all-below-from (m .count) laid-out (g .places))
 
   pub memory-is-good : is-memory m ≡ true → Good m
   unfolding is-memory AllFive
   memory-is-good h =
-      let limited = is-limited most-registers (m .registers) in
+      let limited = is-limited most-registers (m .count) in
       let limited′ = is-limited most-capacity (m .capacity) in
-      let parts = and-five limited limited′ sized counted (all-below (m .registers) laid-out) h in
-      let size = eqb-true (length (m .store)) (offset (m .capacity) (suc (m .registers))) (parts .2) in
+      let parts = and-five limited limited′ sized counted (all-below (m .count) laid-out) h in
+      let size = eqb-true (length (m .store)) (offset (m .capacity) (suc (m .count))) (parts .2) in
       record {
         registers = parts .0;
         capacity = parts .1;
-        store = size ∙ offset-suc (m .capacity) (m .registers);
-        lengths = eqb-true (length (m .lengths)) (m .registers) (parts .3);
-        places = all-below-at (m .registers) laid-out (parts .4);
+        store = size ∙ offset-suc (m .capacity) (m .count);
+        lengths = eqb-true (length (m .lengths)) (m .count) (parts .3);
+        places = all-below-at (m .count) laid-out (parts .4);
       }
 
 -- Registers that fit, laid down: they are read back, and the memory is good
-module _ (m : Memory) (f : ℕ → List Symbol) (fits : Fits (m .capacity) (m .registers) f) where
-  refilled-place : (i : ℕ) → i < m .registers → place-of (refilled m f) (suc i) ≡ laid (m .capacity) (f (suc i))
-  refilled-place i l = rw (offset-suc (m .capacity) i) (place-in-store (m .capacity) f (m .registers) fits i l)
+module _ (m : Memory) (f : ℕ → List Symbol) (fits : Fits (m .capacity) (m .count) f) where
+  refilled-place : (i : ℕ) → i < m .count → place-of (refilled m f) (suc i) ≡ laid (m .capacity) (f (suc i))
+  refilled-place i l = rw (offset-suc (m .capacity) i) (place-in-store (m .capacity) f (m .count) fits i l)
 
-  refilled-length : (i : ℕ) → i < m .registers → getD (refilled m f .lengths) i 0 ≡ length (f (suc i))
-  refilled-length i l = getD-cells (m .registers) (λ j. length (f (suc j))) 0 i l
+  refilled-length : (i : ℕ) → i < m .count → getD (refilled m f .lengths) i 0 ≡ length (f (suc i))
+  refilled-length i l = getD-cells (m .count) (λ j. length (f (suc j))) 0 i l
 
-  pub contents-refilled : (i : ℕ) → i < m .registers → contents (refilled m f) (suc i) ≡ f (suc i)
-  contents-refilled i l = rw (refilled-length i l, refilled-place i l, take-laid (m .capacity) (f (suc i))) (symbols-read (f (suc i)))
+  pub contents-refilled : (i : ℕ) → i < m .count → contents (refilled m f) (suc i) ≡ f (suc i)
+  contents-refilled i l = rw (refilled-length i l, refilled-place i l, take-laid (m .capacity) (f (suc i))) (symbols-of-bytes (f (suc i)))
 
-  pub refilled-good : is-limited most-registers (m .registers) ≡ true → is-limited most-capacity (m .capacity) ≡ true → Good (refilled m f)
+  pub refilled-good : is-limited most-registers (m .count) ≡ true → is-limited most-capacity (m .capacity) ≡ true → Good (refilled m f)
   refilled-good r c = record {
     registers = r;
     capacity = c;
-    store = length-store (m .capacity) f (m .registers) fits;
-    lengths = length-cells (m .registers) λ i. length (f (suc i));
+    store = length-store (m .capacity) f (m .count) fits;
+    lengths = length-cells (m .count) λ i. length (f (suc i));
     places = λ i l. rw (refilled-length i l, refilled-place i l) (laid-is-laid (m .capacity) (f (suc i)) (fits i l));
   }
 
 -- The registers of a good memory fit, and laid down they are the memory
 module _ (m : Memory) (g : Good m) where
-  place-inside : (i : ℕ) → i < m .registers → i * m .capacity + m .capacity ≤ length (m .store)
+  place-inside : (i : ℕ) → i < m .count → i * m .capacity + m .capacity ≤ length (m .store)
   place-inside i l = omega (arith, g .store, mul-le-mul-right (m .capacity) l)
 
-  pub length-place : (i : ℕ) → i < m .registers → length (place-of m (suc i)) ≡ m .capacity
+  pub length-place : (i : ℕ) → i < m .count → length (place-of m (suc i)) ≡ m .capacity
   length-place i l =
       let inside : i * m .capacity + m .capacity ≤ length (m .store) = place-inside i l in
       rw offset-suc (simp (length-take, length-drop) (omega arith))
 
-  pub length-contents : (i : ℕ) → i < m .registers → length (contents m (suc i)) ≡ getD (m .lengths) i 0
+  pub length-contents : (i : ℕ) → i < m .count → length (contents m (suc i)) ≡ getD (m .lengths) i 0
   length-contents i l = length-read (m .capacity) (getD (m .lengths) i 0) (place-of m (suc i)) (length-place i l) (g .places i l)
 
-  pub contents-fit : Fits (m .capacity) (m .registers) (contents m)
+  pub contents-fit : Fits (m .capacity) (m .count) (contents m)
   contents-fit i l =
       rw (length-contents i l) (read-within (m .capacity) (getD (m .lengths) i 0) (place-of m (suc i)) (length-place i l) (g .places i l))
 
-  pub contents-laid : (i : ℕ) → i < m .registers → laid (m .capacity) (contents m (suc i)) ≡ place-of m (suc i)
+  pub contents-laid : (i : ℕ) → i < m .count → laid (m .capacity) (contents m (suc i)) ≡ place-of m (suc i)
   contents-laid i l = read-laid (m .capacity) (getD (m .lengths) i 0) (place-of m (suc i)) (length-place i l) (g .places i l)
 
   -- there is nothing in registers that the memory lacks
-  pub contents-beyond : (i : ℕ) → m .registers ≤ i → contents m (suc i) ≡ []
+  pub contents-beyond : (i : ℕ) → m .count ≤ i → contents m (suc i) ≡ []
   contents-beyond i l = rw (List·getD-eq-default (m .lengths) 0 {n = i} (rw (g .lengths) l))
 
-  stored-so-far : (n : ℕ) → n ≤ m .registers → store-of (m .capacity) n (contents m) ≡ take (n * m .capacity) (m .store)
+  stored-so-far : (n : ℕ) → n ≤ m .count → store-of (m .capacity) n (contents m) ≡ take (n * m .capacity) (m .store)
   unfolding store-of
   stored-so-far zero l = rw zero-mul
   stored-so-far (suc n) l =
@@ -277,22 +272,17 @@ module _ (m : Memory) (g : Good m) where
       = contents-laid n l ∙ rw offset-suc in
       ap₂ {C = Bytes} _++_ before last ∙ rw (suc-mul n (m .capacity)) (sym (take-add (n * m .capacity) (m .capacity) (m .store)))
 
-  pub contents-stored : store-of (m .capacity) (m .registers) (contents m) ≡ m .store
-  contents-stored = stored-so-far (m .registers) (omega arith) ∙ rw (← (g .store)) (take-length (m .store))
+  pub contents-stored : store-of (m .capacity) (m .count) (contents m) ≡ m .store
+  contents-stored = stored-so-far (m .count) (omega arith) ∙ rw (← (g .store)) (take-length (m .store))
 
-  pub contents-counted : lengths-of (m .registers) (contents m) ≡ m .lengths
+  pub contents-counted : lengths-of (m .count) (contents m) ≡ m .lengths
   contents-counted =
-      let count : length (lengths-of (m .registers) (contents m)) ≡ m .registers
-      = length-cells (m .registers) λ i. length (contents m (suc i)) in
-      ext-getD 0 (lengths-of (m .registers) (contents m)) (m .lengths) (count ∙ sym (g .lengths)) λ i l.
-      getD-cells (m .registers) (λ j. length (contents m (suc j))) 0 i (rw (← count) l) ∙ length-contents i (rw (← count) l)
+      let count : length (lengths-of (m .count) (contents m)) ≡ m .count
+      = length-cells (m .count) λ i. length (contents m (suc i)) in
+      ext-getD 0 (lengths-of (m .count) (contents m)) (m .lengths) (count ∙ sym (g .lengths)) λ i l.
+      getD-cells (m .count) (λ j. length (contents m (suc j))) 0 i (rw (← count) l) ∙ length-contents i (rw (← count) l)
 
 -- Runs of words
-
-each-at : {A : Type 0} (P : A → Type 0) (l : List A) (n : ℕ) (a : A) → EachOf P l → getElem? l n ≡ some a → P a
-each-at P [] n a h e = absurd (Option·none-ne-some a e)
-each-at P (x ∷ l) zero a h e = subst P (Option·some-injective x a e) (h .0)
-each-at P (x ∷ l) (suc n) a h e = each-at P l n a (h .1) e
 
 -- n registers hold no more than the capacity, and the others nothing
 pub record Held (capacity n : ℕ) (f : ℕ → List Symbol) : Type 0 where
@@ -348,35 +338,35 @@ module _ (capacity n : ℕ) where
       at-place (pos (suc q)) i f = (each-at (λ j. 1 ≤ operand j) w q i lows f, each-at (NamesAtMost n) w q i names f)
       at-place (negsuc q) i f = absurd (Option·none-ne-some i f)
 
-      go : (q : ℤ) (i : Option Instruction) → W.fetch w q ≡ i → W.perform-fetched (within capacity) s i ≡ some s′
+      go : (q : ℤ) (i : Option Instruction) → W.fetch w q ≡ i → and-then i (W.perform (within capacity) s) ≡ some s′
           → Held capacity n (s .registers) → Held capacity n (s′ .registers)
       go q none f e h = absurd (Option·none-ne-some s′ e)
       go q (some i) f e h = after-performed s s′ i (at-place q i f .0) (at-place q i f .1) e h
 
 -- Registers that are held are laid down in a good memory, and read back from it, all of them
-pub held-refilled : (m : Memory) → Good m → (f : ℕ → List Symbol) → Held (m .capacity) (m .registers) f
+pub held-refilled : (m : Memory) → Good m → (f : ℕ → List Symbol) → Held (m .capacity) (m .count) f
     → (is-memory (refilled m f) ≡ true) × ((r : ℕ) → 0 < r → contents (refilled m f) r ≡ f r)
 held-refilled m g f h = (good-is-memory (refilled m f) good, all-registers)
   where
     good : Good (refilled m f)
     good = refilled-good m f (h .fits) (g .registers) (g .capacity)
 
-    register : (i : ℕ) (t : Bool) → ltb i (m .registers) ≡ t → contents (refilled m f) (suc i) ≡ f (suc i)
-    register i true e = contents-refilled m f (h .fits) i (ltb-true i (m .registers) e)
+    register : (i : ℕ) (t : Bool) → ltb i (m .count) ≡ t → contents (refilled m f) (suc i) ≡ f (suc i)
+    register i true e = contents-refilled m f (h .fits) i (ltb-true i (m .count) e)
     register i false e =
-        let past = ltb-false i (m .registers) e in
+        let past = ltb-false i (m .count) e in
         contents-beyond (refilled m f) good i past ∙ sym (h .beyond i past)
 
     all-registers : (r : ℕ) → 0 < r → contents (refilled m f) r ≡ f r
     all-registers zero l = absurd (omega arith)
-    all-registers (suc i) l = register i (ltb i (m .registers)) refl
+    all-registers (suc i) l = register i (ltb i (m .count)) refl
 
 pub run-holds : (w : List Instruction) (m : Memory) (p : Position) (b : ℕ) → Good m → EachOf (λ i. 1 ≤ operand i) w
-    → EachOf (NamesAtMost (m .registers)) w → Held (m .capacity) (m .registers) (run-word w m p b .state .registers)
+    → EachOf (NamesAtMost (m .count)) w → Held (m .capacity) (m .count) (run-word w m p b .state .registers)
 unfolding run-word
 run-holds w m p b g lows names =
-    run-keeps (W.machine (within (m .capacity)) w) (λ s. Held (m .capacity) (m .registers) (s .registers))
-    (λ s s′ live e. after-step (m .capacity) (m .registers) w lows names s s′ e)
+    run-keeps (W.machine (within (m .capacity)) w) (λ s. Held (m .capacity) (m .count) (s .registers))
+    (λ s s′ live e. after-step (m .capacity) (m .count) w lows names s s′ e)
     b (p .steps) (word-state m p)
     (record { fits = contents-fit m g; beyond = contents-beyond m g })
 

@@ -9,11 +9,11 @@ use lib.ListN.{length}
 use lib.Dec.{eqb, ltb, leb}
 use borrow.Author.Tests.{eqb-true, eq-eqb, ltb-true, ltb-false, lt-ltb, le-ltb, leb-true, le-leb}
 use Rattle.theory.specs.Limits
-use Rattle.theory.specs.Basics.{at, put, given, all-below}
+use Rattle.theory.specs.Basics.{at, put, given, and-then, all-below}
 use Rattle.theory.specs.ProgramText.{Plain, clear, increment, copy, loop, while, Command, plain, opens, closes, variables, block-of}
 use Rattle.theory.specs.Runs.{within}
-use Rattle.theory.specs.Source.{closing, opening, depth, State, go-to, store, begin-loop, passes-after, end-loop, begin-while}
-use Rattle.theory.specs.Source.{perform, perform-fetched, step, machine}
+use Rattle.theory.specs.Source.{closing, opening, depth, State, go-to, set-variable, begin-loop, passes-after, end-loop, begin-while}
+use Rattle.theory.specs.Source.{perform, step, machine}
 use Rattle.theory.specs.Machines.{SourceState, run-source, is-limited}
 use Rattle.theory.specs.TurnedDown.{is-value, is-passes, is-source}
 use Rattle.theory.specs.Claims.{Accepted, SourceStaysGood}
@@ -145,7 +145,7 @@ module _ (p : List Command) (capacity : ℕ) (s : State) (h : Stood p capacity s
 
   -- a variable that is named takes a value
   stood-store : (i x : ℕ) → i < variables p → x ≤ capacity → s .line ≤ length p → depth p (suc (s .line)) ≡ depth p (s .line)
-      → Stood p capacity (store s i x)
+      → Stood p capacity (set-variable s i x)
   stood-store i x named short inside same = record {
     line = (omega arith, omega arith);
     values = values-put capacity (variables p) (s .values) i x named short (h .values);
@@ -228,7 +228,8 @@ module _ (p : List Command) (facts : (n : ℕ) (c : Command) → at p n ≡ some
       → Keeps p capacity (perform (within capacity) p s c)
   stood-performed capacity s h (plain c) a = go c a
     where
-      stored : (c : Plain) (i x : ℕ) → at p (s .line) ≡ some (plain c) → i < variables p → x ≤ capacity → Stood p capacity (store s i x)
+      stored : (c : Plain) (i x : ℕ) → at p (s .line) ≡ some (plain c) → i < variables p → x ≤ capacity
+          → Stood p capacity (set-variable s i x)
       stored c i x a named short =
           stood-store p capacity s h i x named short (at-within p (s .line) (plain c) a .1) (facts (s .line) (plain c) a)
 
@@ -237,11 +238,11 @@ module _ (p : List Command) (facts : (n : ℕ) (c : Command) → at p n ≡ some
       go (increment i) a =
           let n = named-below p (s .line) (plain (increment i)) a in
           let x = suc (s .values i) in
-          keeps-given p capacity (leb x capacity) (store s i x) λ t. stored (increment i) i x a (omega arith) (leb-true x capacity t)
+          keeps-given p capacity (leb x capacity) (set-variable s i x) λ t. stored (increment i) i x a (omega arith) (leb-true x capacity t)
       go (copy i j) a =
           let n = named-below p (s .line) (plain (copy i j)) a in
           let x = s .values j in
-          keeps-given p capacity (leb x capacity) (store s i x) λ t. stored (copy i j) i x a (omega arith) (leb-true x capacity t)
+          keeps-given p capacity (leb x capacity) (set-variable s i x) λ t. stored (copy i j) i x a (omega arith) (leb-true x capacity t)
   stood-performed capacity s h (opens loop i) a =
       let n = named-below p (s .line) (opens loop i) a in
       let (c, P) = facts (s .line) (opens loop i) a in
@@ -260,7 +261,7 @@ module _ (p : List Command) (facts : (n : ℕ) (c : Command) → at p n ≡ some
   unfolding step
   stood-step capacity s s′ e h = subst (Keeps p capacity) e (go (at p (s .line)) refl)
     where
-      go : (c : Option Command) → at p (s .line) ≡ c → Keeps p capacity (perform-fetched (within capacity) p s c)
+      go : (c : Option Command) → at p (s .line) ≡ c → Keeps p capacity (and-then c (perform (within capacity) p s))
       go none a = tt
       go (some c) a = stood-performed capacity s h c a
 

@@ -6,11 +6,11 @@ pub mod Counts
 pub mod Unlimited
 pub mod GoodMemory
 pub mod GoodSource
-pub mod Table
 pub mod Faults
 pub mod Writes
 pub mod Words
 pub mod Endings
+pub mod Ends
 pub mod Cells
 pub mod Joins
 pub mod Partners

@@ -9,10 +9,10 @@ use lib.ListN.{length}
 use lib.Dec.{eqb}
 use borrow.Author.Tests.{eqb-true, eqb-false}
 use Rattle.theory.specs.Basics.{put}
-use Rattle.theory.specs.Runs.{Room}
+use Rattle.theory.specs.Runs.{register, Room}
 use Rattle.theory.specs.ProgramText.{Command}
-use Rattle.theory.specs.Source.{State, depth, go-to, store}
-use Rattle.theory.specs.Translation.{register, scratch, counter}
+use Rattle.theory.specs.Source.{State, depth, go-to, set-variable}
+use Rattle.theory.specs.Translation.{scratch, counter}
 use Rattle.theory.proofs.Cells.{put-same, put-other, put-cases, put-ind}
 use Rattle.theory.proofs.Paths.{Fits}
 
@@ -43,7 +43,7 @@ pub record Match (room : Room) (K : ℕ) (p : List Command) (s : State) (n : ℕ
 
 module _ (room : Room) (K : ℕ) (p : List Command) (s : State) (n : ℕ → ℕ) (M : Match room K p s n) where
   pub match-store : (i x : ℕ) → i < K → s .line ≤ length p → depth p (suc (s .line)) ≡ depth p (s .line) → room (register i) x ≡ true
-      → Match room K p (store s i x) (put n (register i) x)
+      → Match room K p (set-variable s i x) (put n (register i) x)
   match-store i x l b e f = record {
     from-first = omega arith;
     to-end = omega arith;

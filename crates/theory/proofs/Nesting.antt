@@ -10,13 +10,13 @@ use lib.ListN.{length, length-map}
 use lib.Dec.{eqb, ltb, leb}
 use borrow.Author.Tests.{eqb-true, ltb-true, leb-true, le-leb}
 use Rattle.theory.specs.Limits
-use Rattle.theory.specs.Basics.{or-else, present}
+use Rattle.theory.specs.Basics.{or-else, present, EachOf}
 use Rattle.theory.specs.Text.{Bytes}
 use Rattle.theory.specs.ProgramText.{Plain, Kind, loop, while, Command, plain, opens, closes, indices, above, variables, listed}
-use Rattle.theory.specs.ProgramText.{Block, end, line, pair, lines, Blocks, opened-by, blocks, block-of}
-use Rattle.theory.specs.TurnedDown.{done, unless, rule-1, rule-2, rule-3, Open, same-kind, pair-fault, line-fault, open-next}
+use Rattle.theory.specs.ProgramText.{Block, empty, single, pair, lines, Blocks, opened-by, blocks, block-of, Opening}
+use Rattle.theory.specs.TurnedDown.{done, unless, rule-1, rule-2, rule-3, same-kind, pair-fault, line-fault, open-past}
 use Rattle.theory.specs.TurnedDown.{lines-fault, program-fault, text-lines, text-fault, read-text, read-list}
-use Rattle.theory.specs.Claims.{Accepted, ReadsAccepted, EachOf}
+use Rattle.theory.specs.Claims.{Accepted, ReadsAccepted, WellNested}
 use Rattle.theory.specs.declared.Refusal.{Refusal}
 use Rattle.theory.proofs.Faults.{none-first, none-second, neither, answer-done, unless-none, and-first, and-second}
 
@@ -28,22 +28,22 @@ kinds while while e = refl
 
 -- Rules 4 to 7, of one line
 
-pub indexed : (n : ℕ) (os : List Open) (c : Command) → line-fault n os (some c) ≡ none → above (indices c) ≤ suc Limits.most-index
+pub indexed : (n : ℕ) (os : List Opening) (c : Command) → line-fault n os (some c) ≡ none → above (indices c) ≤ suc Limits.most-index
 indexed n os c e =
     let t : Bool = leb (above (indices c)) (suc Limits.most-index) in
     leb-true (above (indices c)) (suc Limits.most-index) (unless-none t 5 n (none-first (unless t 5 n) (pair-fault n os c) e))
 
-pub paired : (n : ℕ) (os : List Open) (c : Command) → line-fault n os (some c) ≡ none → pair-fault n os c ≡ none
+pub paired : (n : ℕ) (os : List Opening) (c : Command) → line-fault n os (some c) ≡ none → pair-fault n os c ≡ none
 paired n os c e = none-second (unless (leb (above (indices c)) (suc Limits.most-index)) 5 n) (pair-fault n os c) e
 
-pub few-open : (n : ℕ) (os : List Open) (k : Kind) (i : ℕ) → line-fault n os (some (opens k i)) ≡ none → length os < Limits.most-open
+pub few-open : (n : ℕ) (os : List Opening) (k : Kind) (i : ℕ) → line-fault n os (some (opens k i)) ≡ none → length os < Limits.most-open
 few-open n os k i e =
     ltb-true (length os) Limits.most-open (unless-none (ltb (length os) Limits.most-open) 6 n (paired n os (opens k i) e))
 
 pub one-open : (n : ℕ) (k : Kind) (i : ℕ) → line-fault n [] (some (closes k i)) ≡ none → ⊥
 one-open n k i e = Option·none-ne-some _ (sym (paired n [] (closes k i) e))
 
-pub matching : (n : ℕ) (o : Open) (os : List Open) (k : Kind) (i : ℕ) → line-fault n (o ∷ os) (some (closes k i)) ≡ none
+pub matching : (n : ℕ) (o : Opening) (os : List Opening) (k : Kind) (i : ℕ) → line-fault n (o ∷ os) (some (closes k i)) ≡ none
     → (k ≡ o .kind) × (i ≡ o .index)
 matching n o os k i e =
     let t : Bool = same-kind k (o .kind) && eqb i (o .index) in
@@ -51,15 +51,15 @@ matching n o os k i e =
     (kinds k (o .kind) (and-first (same-kind k (o .kind)) _ h), eqb-true i (o .index) (and-second (same-kind k (o .kind)) _ h))
 
 -- The first line has no fault, and the others have none under the pairs that are then open
-pub first-line : (n : ℕ) (os : List Open) (c : Option Command) (l : List (Option Command)) → lines-fault n os (c ∷ l) ≡ none
+pub first-line : (n : ℕ) (os : List Opening) (c : Option Command) (l : List (Option Command)) → lines-fault n os (c ∷ l) ≡ none
     → line-fault n os c ≡ none
 unfolding lines-fault
-first-line n os c l e = none-first (line-fault n os c) (lines-fault (suc n) (open-next n os c) l) e
+first-line n os c l e = none-first (line-fault n os c) (lines-fault (suc n) (open-past n os c) l) e
 
-pub next-lines : (n : ℕ) (os : List Open) (c : Option Command) (l : List (Option Command)) → lines-fault n os (c ∷ l) ≡ none
-    → lines-fault (suc n) (open-next n os c) l ≡ none
+pub next-lines : (n : ℕ) (os : List Opening) (c : Option Command) (l : List (Option Command)) → lines-fault n os (c ∷ l) ≡ none
+    → lines-fault (suc n) (open-past n os c) l ≡ none
 unfolding lines-fault
-next-lines n os c l e = none-second (line-fault n os c) (lines-fault (suc n) (open-next n os c) l) e
+next-lines n os c l e = none-second (line-fault n os c) (lines-fault (suc n) (open-past n os c) l) e
 
 -- Rules 3 to 8 are rule 3 and the lines' rules
 pub faultless : (l : List (Option Command)) → program-fault l ≡ none → (length l ≤ Limits.most-lines) × (lines-fault 1 [] l ≡ none)
@@ -83,22 +83,22 @@ accepts p l e =
     neither (rule-3 (map some p)) (lines-fault 1 [] (map some p)) (rw (le-leb (length (map some p)) Limits.most-lines few)) e
 
 -- Line by line: no rule turns a line down, under the pairs open there
-abbrev pub LinesSound : ℕ → List Open → List Command → Type 0
+abbrev pub LinesSound : ℕ → List Opening → List Command → Type 0
 LinesSound n os [] = Unit {0}
-LinesSound n os (c ∷ p) = (line-fault n os (some c) ≡ none) × LinesSound (suc n) (open-next n os (some c)) p
+LinesSound n os (c ∷ p) = (line-fault n os (some c) ≡ none) × LinesSound (suc n) (open-past n os (some c)) p
 
-pub lines-sound : (p : List Command) (n : ℕ) (os : List Open) → lines-fault n os (map some p) ≡ none → LinesSound n os p
+pub lines-sound : (p : List Command) (n : ℕ) (os : List Opening) → lines-fault n os (map some p) ≡ none → LinesSound n os p
 lines-sound [] n os e = tt
 lines-sound (c ∷ p) n os e =
     let l : List (Option Command) = map some p in
-    (first-line n os (some c) l e, lines-sound p (suc n) (open-next n os (some c)) (next-lines n os (some c) l e))
+    (first-line n os (some c) l e, lines-sound p (suc n) (open-past n os (some c)) (next-lines n os (some c) l e))
 
 abbrev pub LowIndices : Command → Type 0
 LowIndices c = above (indices c) ≤ suc Limits.most-index
 
-low-indices : (p : List Command) (n : ℕ) (os : List Open) → LinesSound n os p → EachOf LowIndices p
+low-indices : (p : List Command) (n : ℕ) (os : List Opening) → LinesSound n os p → EachOf LowIndices p
 low-indices [] n os s = tt
-low-indices (c ∷ p) n os s = (indexed n os c (s .0), low-indices p (suc n) (open-next n os (some c)) (s .1))
+low-indices (c ∷ p) n os s = (indexed n os c (s .0), low-indices p (suc n) (open-past n os (some c)) (s .1))
 
 pub low : (p : List Command) → Accepted p → EachOf LowIndices p
 low p a = low-indices p 1 [] (lines-sound p 1 [] (sound p a))
@@ -113,11 +113,11 @@ pub few-variables : (p : List Command) → Accepted p → variables p ≤ suc Li
 few-variables p a = few-named p (low p a)
 
 -- What is read is accepted: no line of it is missing
-all-present : (l : List (Option Command)) (n : ℕ) (os : List Open) → lines-fault n os l ≡ none → map some (present l) ≡ l
+all-present : (l : List (Option Command)) (n : ℕ) (os : List Opening) → lines-fault n os l ≡ none → map some (present l) ≡ l
 all-present [] n os e = refl
 all-present (none ∷ l) n os e = absurd (Option·none-ne-some _ (sym (first-line n os none l e)))
 all-present (some c ∷ l) n os e =
-    ap {B = List (Option Command)} (λ r. some c ∷ r) (all-present l (suc n) (open-next n os (some c)) (next-lines n os (some c) l e))
+    ap {B = List (Option Command)} (λ r. some c ∷ r) (all-present l (suc n) (open-past n os (some c)) (next-lines n os (some c) l e))
 
 pub nothing-missing : (l : List (Option Command)) → program-fault l ≡ none → map some (present l) ≡ l
 nothing-missing l e = all-present l 1 [] (faultless l e .1)
@@ -152,18 +152,18 @@ reads-accepted = (of-text, of-list)
 -- An accepted program is the lines of its block
 
 -- The lines of a block, and of those after each pair open
-joined : List Open → Block → List Block → List Command
+joined : List Opening → Block → List Block → List Command
 joined [] b bs = lines b
 joined (o ∷ os) b [] = lines b
 joined (o ∷ os) b (b′ ∷ bs) = lines b ++ (closes (o .kind) (o .index) ∷ joined os b′ bs)
 
-joined-line : (os : List Open) (c : Plain) (b : Block) (bs : List Block) → joined os (line c b) bs ≡ plain c ∷ joined os b bs
+joined-line : (os : List Opening) (c : Plain) (b : Block) (bs : List Block) → joined os (single c b) bs ≡ plain c ∷ joined os b bs
 unfolding joined
 joined-line [] c b bs = refl
 joined-line (o ∷ os) c b [] = refl
 joined-line (o ∷ os) c b (b′ ∷ bs) = refl
 
-joined-pair : (os : List Open) (k : Kind) (i : ℕ) (b b′ : Block) (bs : List Block)
+joined-pair : (os : List Opening) (k : Kind) (i : ℕ) (b b′ : Block) (bs : List Block)
     → joined os (pair k i b b′) bs ≡ opens k i ∷ (lines b ++ (closes k i ∷ joined os b′ bs))
 unfolding joined
 joined-pair [] k i b b′ bs = refl
@@ -171,17 +171,17 @@ joined-pair (o ∷ os) k i b b′ [] = refl
 joined-pair (o ∷ os) k i b b′ (x ∷ bs) = rw append-assoc
 
 -- As many blocks as pairs open, and their lines are the program's
-Joins : List Open → List Command → Blocks → Type 0
+Joins : List Opening → List Command → Blocks → Type 0
 Joins os p r = (length (r .later) ≡ length os) × (joined os (r .first) (r .later) ≡ p)
 
-joins-open : (k : Kind) (i n : ℕ) (p : List Command) (os : List Open) (b : Block) (bs : List Block)
+joins-open : (k : Kind) (i n : ℕ) (p : List Command) (os : List Opening) (b : Block) (bs : List Block)
     → length bs ≡ suc (length os) → joined (record { line = n; kind = k; index = i } ∷ os) b bs ≡ p
     → Joins os (opens k i ∷ p) (opened-by k i b bs)
 unfolding Joins joined
 joins-open k i n p os b [] l e = absurd (omega arith)
 joins-open k i n p os b (b′ ∷ bs) l e = (omega arith, joined-pair os k i b b′ bs ∙ ap {B = List Command} (λ r. opens k i ∷ r) e)
 
-joins : (p : List Command) (n : ℕ) (os : List Open) → lines-fault n os (map some p) ≡ none → Joins os p (blocks p)
+joins : (p : List Command) (n : ℕ) (os : List Opening) → lines-fault n os (map some p) ≡ none → Joins os p (blocks p)
 unfolding Joins joined blocks lines-fault
 joins [] n [] e = (refl, refl)
 joins [] n (o ∷ os) e = absurd (Option·none-ne-some _ (sym e))
@@ -189,7 +189,7 @@ joins (plain c ∷ p) n os e =
     let r : Joins os p (blocks p) = joins p (suc n) os (next-lines n os (some (plain c)) (map some p) e) in
     (r .0, joined-line os c (blocks p .first) (blocks p .later) ∙ ap {B = List Command} (λ l. plain c ∷ l) (r .1))
 joins (opens k i ∷ p) n os e =
-    let os′ : List Open = record { line = n; kind = k; index = i } ∷ os in
+    let os′ : List Opening = record { line = n; kind = k; index = i } ∷ os in
     let r : Joins os′ p (blocks p) = joins p (suc n) os′ (next-lines n os (some (opens k i)) (map some p) e) in
     joins-open k i n p os (blocks p .first) (blocks p .later) (r .0) (r .1)
 joins (closes k i ∷ p) n [] e = absurd (one-open n k i (first-line n [] (some (closes k i)) (map some p) e))
@@ -198,7 +198,7 @@ joins (closes k i ∷ p) n (o ∷ os) e =
     let m : _ = matching n o os k i (first-line n (o ∷ os) (some (closes k i)) (map some p) e) in
     (ap suc (r .0), ap₂ {C = List Command} (λ c l. c ∷ l) (ap₂ closes (sym (m .0)) (sym (m .1))) (r .1))
 
-pub well-nested : (p : List Command) → Accepted p → lines (block-of p) ≡ p
+pub well-nested : WellNested
 unfolding block-of Joins joined
 well-nested p a = joins p 1 [] (sound p a) .1
 
@@ -206,21 +206,21 @@ well-nested p a = joins p 1 [] (sound p a) .1
 
 -- One block after another
 then : Block → Block → Block
-then end b = b
-then (line c x) b = line c (then x b)
+then empty b = b
+then (single c x) b = single c (then x b)
 then (pair k i body x) b = pair k i body (then x b)
 
-then-end : (b : Block) → then b end ≡ b
+then-end : (b : Block) → then b empty ≡ b
 unfolding then
-then-end end = refl
-then-end (line c b) = ap (line c) (then-end b)
+then-end empty = refl
+then-end (single c b) = ap (single c) (then-end b)
 then-end (pair k i body b) = ap (pair k i body) (then-end b)
 
 blocks-lines : (b : Block) (p : List Command)
     → blocks (lines b ++ p) ≡ record { first = then b (blocks p .first); later = blocks p .later }
 unfolding then blocks
-blocks-lines end p = refl
-blocks-lines (line c b) p = ap {B = Blocks} (λ r. record { first = line c (r .first); later = r .later }) (blocks-lines b p)
+blocks-lines empty p = refl
+blocks-lines (single c b) p = ap {B = Blocks} (λ r. record { first = single c (r .first); later = r .later }) (blocks-lines b p)
 blocks-lines (pair k i body b) p =
     ap (λ r. opened-by k i (r .first) (r .later))
     (ap blocks (append-assoc (lines body) (closes k i ∷ lines b) p)
@@ -230,20 +230,20 @@ blocks-lines (pair k i body b) p =
 -- At most 16 pairs within pairs
 
 abbrev pub nest : Block → ℕ
-nest end = 0
-nest (line c b) = nest b
+nest empty = 0
+nest (single c b) = nest b
 nest (pair k i body b) = max (suc (nest body)) (nest b)
 
 -- A block's lines, under some pairs open, and more lines after it: its pairs have room, and the lines after it stand under the same pairs
-nested : (b : Block) (n : ℕ) (os : List Open) (p : List Command)
+nested : (b : Block) (n : ℕ) (os : List Opening) (p : List Command)
     → lines-fault n os (map some (lines b ++ p)) ≡ none → length os ≤ Limits.most-open
     → (nest b + length os ≤ Limits.most-open) × ((n′ : ℕ) × (lines-fault n′ os (map some p) ≡ none))
-nested end n os p e l = (omega arith, (n, e))
-nested (line c b) n os p e l = nested b (suc n) os p (next-lines n os (some (plain c)) (map some (lines b ++ p)) e) l
+nested empty n os p e l = (omega arith, (n, e))
+nested (single c b) n os p e l = nested b (suc n) os p (next-lines n os (some (plain c)) (map some (lines b ++ p)) e) l
 nested (pair k i body b) n os p e l =
     let c : Option Command = some (opens k i) in
     let r : List Command = (lines body ++ (closes k i ∷ lines b)) ++ p in
-    let os′ : List Open = record { line = n; kind = k; index = i } ∷ os in
+    let os′ : List Opening = record { line = n; kind = k; index = i } ∷ os in
     let few : length os < Limits.most-open = few-open n os k i (first-line n os c (map some r) e) in
     let f : lines-fault (suc n) os′ (map some (lines body ++ (closes k i ∷ (lines b ++ p)))) ≡ none =
     rw append-assoc at (next-lines n os c (map some r) e) in

@@ -9,22 +9,22 @@ use lib.ListN.{length, getElem?, take, drop, length-append, length-take}
 use lib.Seq.{take-length}
 use Rattle.theory.specs.Basics.{at}
 use Rattle.theory.specs.ProgramText.{Kind, Plain, Command, plain, opens, closes, indices, above, variables}
-use Rattle.theory.specs.ProgramText.{Block, end, line, pair, lines}
-use Rattle.theory.specs.Source.{ahead, closing, Opening, closed, open-after, open-at, innermost, opening, deeper, loops, depth}
+use Rattle.theory.specs.ProgramText.{Opening, open-next, Block, empty, single, pair, lines}
+use Rattle.theory.specs.Source.{ahead, closing, open-after, open-at, innermost, opening, deeper, loops, depth}
 use Rattle.theory.proofs.Cells.{at-within, Sits, sits-left, sits-right, sits-self}
 
 -- What holds of a block that begins at a line, told of every line of the block
 
 -- A property of blocks and the lines where they begin that goes on to the blocks within
 pub record Inherited (Q : ℕ → Block → Type 0) : Type 0 where
-  pub rest : (n : ℕ) (c : Plain) (b : Block) → Q n (line c b) → Q (suc n) b
+  pub rest : (n : ℕ) (c : Plain) (b : Block) → Q n (single c b) → Q (suc n) b
   pub body : (n : ℕ) (k : Kind) (i : ℕ) (body b : Block) → Q n (pair k i body b) → Q (suc n) body
   pub next : (n : ℕ) (k : Kind) (i : ℕ) (body b : Block) → Q n (pair k i body b) → Q (suc (suc n + length (lines body))) b
 
 module _ (Q : ℕ → Block → Type 0) where
   -- Of line n, a plain line or a line of a pair: the block that begins with it
   abbrev pub Spot : ℕ → Command → Type 0
-  Spot n (plain c) = (b : Block) × Q n (line c b)
+  Spot n (plain c) = (b : Block) × Q n (single c b)
   Spot n (opens k i) = (body : Block) × (b : Block) × Q n (pair k i body b)
   Spot n (closes k i) = (o : ℕ) × (body : Block) × (b : Block) × (n ≡ suc o + length (lines body)) × Q o (pair k i body b)
 
@@ -42,8 +42,8 @@ module _ (Q : ℕ → Block → Type 0) where
   spot-at (x ∷ l) n (suc k) c h e = subst (λ j. Spot j c) (omega arith) (spot-at l (suc n) k c (h .1) e)
 
   spots : Inherited Q → (b : Block) (n : ℕ) → Q n b → Spots n (lines b)
-  spots I end n q = tt
-  spots I (line c b) n q = ((b, q), spots I b (suc n) (I .rest n c b q))
+  spots I empty n q = tt
+  spots I (single c b) n q = ((b, q), spots I b (suc n) (I .rest n c b q))
   spots I (pair k i body b) n q = (
     (body, b, q),
     spots-append (suc n) (lines body) (closes k i ∷ lines b)
@@ -60,27 +60,23 @@ module _ (Q : ℕ → Block → Type 0) where
 open-after-append : (p q : List Command) (n : ℕ) (os : List Opening)
     → open-after (p ++ q) n os ≡ open-after q (n + length p) (open-after p n os)
 open-after-append [] q n os = rw add-zero
-open-after-append (plain c ∷ p) q n os =
-    open-after-append p q (suc n) os ∙ ap (λ k. open-after q k (open-after p (suc n) os)) (omega arith)
-open-after-append (opens k i ∷ p) q n os =
-    let os′ : List Opening = record { line = n; kind = k } ∷ os in
-    open-after-append p q (suc n) os′ ∙ ap (λ x. open-after q x (open-after p (suc n) os′)) (omega arith)
-open-after-append (closes k i ∷ p) q n os =
-    open-after-append p q (suc n) (closed os) ∙ ap (λ x. open-after q x (open-after p (suc n) (closed os))) (omega arith)
+open-after-append (c ∷ p) q n os =
+    let os′ : List Opening = open-next n os c in
+    open-after-append p q (suc n) os′ ∙ ap (λ k. open-after q k (open-after p (suc n) os′)) (omega arith)
 
 -- A block leaves open what was open, and is passed over in the search for a closing line
 balanced : (b : Block) (n : ℕ) (os : List Opening) → open-after (lines b) n os ≡ os
-balanced end n os = refl
-balanced (line c b) n os = balanced b (suc n) os
+balanced empty n os = refl
+balanced (single c b) n os = balanced b (suc n) os
 balanced (pair k i body b) n os =
     let c : ℕ = suc n + length (lines body) in
-    let inside : List Opening = record { line = n; kind = k } ∷ os in
+    let inside : List Opening = record { line = n; kind = k; index = i } ∷ os in
     open-after-append (lines body) (closes k i ∷ lines b) (suc n) inside
-    ∙ (ap (λ o. open-after (lines b) (suc c) (closed o)) (balanced body (suc n) inside) ∙ balanced b (suc c) os)
+    ∙ (ap (λ o. open-after (lines b) (suc c) (open-next c o (closes k i))) (balanced body (suc n) inside) ∙ balanced b (suc c) os)
 
 passed : (b : Block) (l : List Command) (n : ℕ) → ahead (lines b ++ l) n ≡ length (lines b) + ahead l n
-passed end l n = omega arith
-passed (line c b) l n = omega (arith, passed b l n)
+passed empty l n = omega arith
+passed (single c b) l n = omega (arith, passed b l n)
 passed (pair k i body b) l n =
     rw (append-assoc (lines body) (closes k i ∷ lines b) l)
     (omega (
@@ -111,10 +107,11 @@ drop-along {A} p (c ∷ l) n h =
     ∙ ap {B = List A} (λ r. c ∷ r) (drop-along p l (suc n) (h .1) ∙ ap (λ k. l ++ drop k p) (sym (slide n (length l))))
 
 module _ (p : List Command) where
-  open-next : (n : ℕ) (c : Command) → at p n ≡ some c → open-at p (suc n) ≡ open-after (c ∷ []) n (open-at p n)
+  -- The pairs open after one line more
+  pub open-on : (n : ℕ) (c : Command) → at p n ≡ some c → open-at p (suc n) ≡ open-next n (open-at p n) c
   unfolding open-at
-  open-next zero c e = absurd (Option·none-ne-some c e)
-  open-next (suc n) c e =
+  open-on zero c e = absurd (Option·none-ne-some c e)
+  open-on (suc n) c e =
       let inside : (1 ≤ suc n) × (suc n ≤ length p) = at-within p (suc n) c e in
       let before : length (take n p) ≡ n = rw length-take (omega (arith, inside .1)) in
       ap (λ l. open-after l 1 []) (take-next p n c e)
@@ -125,12 +122,11 @@ module _ (p : List Command) where
   open-along (c ∷ l) n h =
       ap (open-at p) (omega arith)
       ∙ (open-along l (suc n) (h .1)
-      ∙ (ap (open-after l (suc n)) (open-next n c (h .0))
-      ∙ sym (open-after-append (c ∷ []) l n (open-at p n) ∙ ap (λ k. open-after l k (open-after (c ∷ []) n (open-at p n))) (omega arith))))
+      ∙ ap (open-after l (suc n)) (open-on n c (h .0)))
 
   pub plain-depth : (n : ℕ) (c : Plain) → at p n ≡ some (plain c) → depth p (suc n) ≡ depth p n
   unfolding depth
-  plain-depth n c e = ap loops (open-next n (plain c) e)
+  plain-depth n c e = ap loops (open-on n (plain c) e)
 
 -- The pair of kind k on variable i whose lines are o and c
 pub record Partners (p : List Command) (o c : ℕ) (k : Kind) (i : ℕ) : Type 0 where
@@ -154,14 +150,14 @@ module _ (p : List Command) (n : ℕ) (k : Kind) (i : ℕ) (body b : Block) (h :
   pub close-lines : Sits p c (closes k i ∷ lines b)
   close-lines = sits-right p (suc n) (lines body) (closes k i ∷ lines b) (h .1)
 
-  open-body : open-at p (suc n) ≡ record { line = n; kind = k } ∷ open-at p n
-  open-body = open-next p n (opens k i) (h .0)
+  open-body : open-at p (suc n) ≡ record { line = n; kind = k; index = i } ∷ open-at p n
+  open-body = open-on p n (opens k i) (h .0)
 
-  open-close : open-at p c ≡ record { line = n; kind = k } ∷ open-at p n
+  open-close : open-at p c ≡ record { line = n; kind = k; index = i } ∷ open-at p n
   open-close = open-along p (lines body) (suc n) body-lines ∙ (balanced body (suc n) (open-at p (suc n)) ∙ open-body)
 
   open-past : open-at p (suc c) ≡ open-at p n
-  open-past = open-next p c (closes k i) (close-lines .0) ∙ ap closed open-close
+  open-past = open-on p c (closes k i) (close-lines .0) ∙ ap (λ os. open-next c os (closes k i)) open-close
 
   closes-at : closing p n ≡ c
   unfolding closing

@@ -2,22 +2,22 @@
 use mathlib.Core.Path.{_≡_, refl, sym, ap, _∙_, subst}
 use mathlib.Core.Logic.{_≢_}
 use mathlib.Core.Bool.{Bool, true, false, cond}
-use mathlib.Core.Option.{Option, none, some, Option·none-ne-some, Option·some-injective}
+use mathlib.Core.Option.{Option, none, some, Option·map, Option·none-ne-some, Option·some-injective}
 use mathlib.Core.List.{List, [], _∷_, _++_}
 use Prim.Native.Nat.{ℕ, zero, suc, pred, _+_, _*_, _≤_, _<_}
 use native.Mathlib.Omega.{arith}
 use lib.ListN.{length}
 use lib.Dec.{eqb}
 use borrow.Author.Tests.{eqb-true, eqb-false}
-use Rattle.theory.specs.Basics.{at, put, given}
-use Rattle.theory.specs.Runs.{Room, stay, move}
+use Rattle.theory.specs.Basics.{at, put, given, and-then, default}
+use Rattle.theory.specs.Runs.{register, Room, stay, move}
 use Rattle.theory.specs.ProgramText.{Kind, loop, while, clear, increment, copy, Command, plain, opens, closes, indices, above}
 use Rattle.theory.specs.Source as S
-use Rattle.theory.specs.Source.{State, closing, opening, depth, go-to, store, begin-loop, end-loop, begin-while, passes-after}
+use Rattle.theory.specs.Source.{State, closing, opening, depth, go-to, set-variable, begin-loop, end-loop, begin-while, passes-after}
 use Rattle.theory.specs.Word as W
 use Rattle.theory.specs.Word.{Instruction, forward, cases}
-use Rattle.theory.specs.Translation.{register, scratch, counter, sharing, returning, touching, copying, before-body}
-use Rattle.theory.specs.Translation.{loop-charge, endloop-charge, command-charge, charge-fetched, charge}
+use Rattle.theory.specs.Translation.{scratch, counter, sharing, returning, touching, copying, before-body}
+use Rattle.theory.specs.Translation.{loop-charge, endloop-charge, command-charge, charge}
 use Rattle.theory.proofs.Cells.{at-within, put-same, put-other, put-cases, put-put, put-id, Sits, sits-left, sits-right}
 use Rattle.theory.proofs.Joins.{ends, join}
 use Rattle.theory.proofs.Steps.{standing, step-append, step-forward, step-backward, step-empty, step-one}
@@ -61,7 +61,7 @@ module _ (room : Room) (K : ℕ) (p : List Command) (w : List Instruction) where
         ap (λ r. depth p (suc r)) (P .partners .closing-is) ∙ P .partners .after-depth in
         match-go-to room K p s n M (suc (closing p (s .line))) (omega arith) (omega (arith, ok .1, P .partners .closing-is)) same
 
-    on-clear : (i : ℕ) → i < K → s .line ≤ length p → Line K p w (s .line) (clear i) → Result s n (2 * s .values i + 2) (store s i 0)
+    on-clear : (i : ℕ) → i < K → s .line ≤ length p → Line K p w (s .line) (clear i) → Result s n (2 * s .values i + 2) (set-variable s i 0)
     on-clear i l b L = (
       put n (register i) 0,
       ends refl (ap (λ q. standing q (put n (register i) 0)) (sym (L .line-place)))
@@ -70,7 +70,7 @@ module _ (room : Room) (K : ℕ) (p : List Command) (w : List Instruction) where
     )
 
     on-increment : (i : ℕ) → i < K → s .line ≤ length p → Line K p w (s .line) (increment i)
-        → room (register i) (suc (s .values i)) ≡ true → Result s n 1 (store s i (suc (s .values i)))
+        → room (register i) (suc (s .values i)) ≡ true → Result s n 1 (set-variable s i (suc (s .values i)))
     on-increment i l b L r = (
       put n (register i) (suc (s .values i)),
       move (step-append room w here n (register i) (s .values i) (place K p (suc (s .line))) (put n (register i) (suc (s .values i)))
@@ -84,20 +84,21 @@ module _ (room : Room) (K : ℕ) (p : List Command) (w : List Instruction) where
       abbrev copy-code : Bool → List Instruction
       copy-code t = cond t (touching (register j)) (copying (register j) (register i) (scratch K))
 
-      stored : Match room K p (store s i (s .values j)) (put n (register i) (s .values j))
+      stored : Match room K p (set-variable s i (s .values j)) (put n (register i) (s .values j))
       stored = match-store room K p s n M i (s .values j) l b (L .line-depth) r
 
-      copy-to-itself : i ≡ j → Sits w here (copy-code true) → place K p (suc (s .line)) ≡ here + 3 → Result s n 2 (store s i (s .values j))
+      copy-to-itself : i ≡ j → Sits w here (copy-code true) → place K p (suc (s .line)) ≡ here + 3
+          → Result s n 2 (set-variable s i (s .values j))
       copy-to-itself e h to =
           let x : ℕ = s .values j in
           let same : put n (register i) x ≡ n = put-id n (register i) x (ap (λ m. n (register m)) e ∙ M .held j l′) in (
             n,
             ends refl (ap (λ q. standing q n) (sym to)) (touches room w here (register j) h x n (M .held j l′) (own j x l′ refl)),
-            subst (Match room K p (store s i x)) same stored,
+            subst (Match room K p (set-variable s i x)) same stored,
           )
 
       copy-to-other : i ≢ j → Sits w here (copy-code false) → place K p (suc (s .line)) ≡ here + 12
-          → Result s n (2 * s .values i + 7 * s .values j + 6) (store s i (s .values j))
+          → Result s n (2 * s .values i + 7 * s .values j + 6) (set-variable s i (s .values j))
       copy-to-other e h to =
           let x : ℕ = s .values j in
           let fit : Fits room (register i) x = fits room K R (register i) x r in (
@@ -108,11 +109,11 @@ module _ (room : Room) (K : ℕ) (p : List Command) (w : List Instruction) where
             stored,
           )
 
-      on-copy : Result s n (command-charge p s (plain (copy i j))) (store s i (s .values j))
+      on-copy : Result s n (command-charge p s (plain (copy i j))) (set-variable s i (s .values j))
       on-copy = go (eqb i j) refl (L .line-code) (L .line-place)
         where
           go : (t : Bool) → eqb i j ≡ t → Sits w here (copy-code t) → place K p (suc (s .line)) ≡ here + length (copy-code t)
-              → Result s n (cond t 2 (2 * s .values i + 7 * s .values j + 6)) (store s i (s .values j))
+              → Result s n (cond t 2 (2 * s .values i + 7 * s .values j + 6)) (set-variable s i (s .values j))
           go true e h to = copy-to-itself (eqb-true i j e) h to
           go false e h to = copy-to-other (eqb-false i j e) h to
 
@@ -255,12 +256,12 @@ module _ (room : Room) (K : ℕ) (p : List Command) (w : List Instruction) where
           → Result s n (command-charge p s c) s′
       on-command s′ (plain (clear i)) e x =
           let k : _ = known (s .line) (plain (clear i)) e in
-          subst (Result s n (2 * s .values i + 2)) (Option·some-injective (store s i 0) s′ x)
+          subst (Result s n (2 * s .values i + 2)) (Option·some-injective (set-variable s i 0) s′ x)
           (on-clear i (omega (arith, k .1)) (at-within p (s .line) (plain (clear i)) e .1) (k .0))
       on-command s′ (plain (increment i)) e x = go (room (register i) (suc (s .values i))) refl x
         where
           after : State
-          after = store s i (suc (s .values i))
+          after = set-variable s i (suc (s .values i))
 
           go : (r : Bool) → room (register i) (suc (s .values i)) ≡ r → given r after ≡ some s′ → Result s n 1 s′
           go true h y =
@@ -271,7 +272,7 @@ module _ (room : Room) (K : ℕ) (p : List Command) (w : List Instruction) where
       on-command s′ (plain (copy i j)) e x = go (room (register i) (s .values j)) refl x
         where
           after : State
-          after = store s i (s .values j)
+          after = set-variable s i (s .values j)
 
           go : (r : Bool) → room (register i) (s .values j) ≡ r → given r after ≡ some s′
               → Result s n (command-charge p s (plain (copy i j))) s′
@@ -300,6 +301,7 @@ module _ (room : Room) (K : ℕ) (p : List Command) (w : List Instruction) where
       unfolding S.step charge
       simulate s′ x = go (at p (s .line)) refl x
         where
-          go : (o : Option Command) → at p (s .line) ≡ o → S.perform-fetched room p s o ≡ some s′ → Result s n (charge-fetched p s o) s′
+          go : (o : Option Command) → at p (s .line) ≡ o → and-then o (S.perform room p s) ≡ some s′
+              → Result s n (default 0 (Option·map (command-charge p s) o)) s′
           go none e y = absurd (Option·none-ne-some s′ y)
           go (some c) e y = on-command s′ c e y

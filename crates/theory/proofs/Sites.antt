@@ -9,7 +9,7 @@ use lib.ListN.{length, take, length-append}
 use lib.Seq.{take-length}
 use Rattle.theory.specs.Basics.{at}
 use Rattle.theory.specs.ProgramText.{Kind, loop, while, Plain, Command, plain, opens, closes, variables}
-use Rattle.theory.specs.ProgramText.{Block, end, line, pair, lines}
+use Rattle.theory.specs.ProgramText.{Block, empty, single, pair, lines}
 use Rattle.theory.specs.Source.{deeper, depth}
 use Rattle.theory.specs.Word.{Instruction, forward}
 use Rattle.theory.specs.Translation.{plain-code, before-body, after-body, code, word}
@@ -48,8 +48,8 @@ sizes-append K (c ∷ p) q = omega (arith, sizes-append K p q)
 -- The code of a block is as long as that of its lines
 sized : (K d : ℕ) (b : Block) → sizes K (lines b) ≡ length (code K d b)
 unfolding sizes size code
-sized K d end = refl
-sized K d (line c b) = omega (arith, sized K d b, length-append (plain-code K c) (code K d b))
+sized K d empty = refl
+sized K d (single c b) = omega (arith, sized K d b, length-append (plain-code K c) (code K d b))
 sized K d (pair k i body b) =
     let inner : List Instruction = code K (deeper k d) body in
     let front : List Instruction = before-body K d k i (length inner) in
@@ -101,7 +101,7 @@ module _ (K : ℕ) (p : List Command) (w : List Instruction) where
   abbrev Coded : ℕ → Block → Type 0
   Coded n b = Sits p n (lines b) × Sits w (place K p n) (code K (depth p n) b)
 
-  module _ (n : ℕ) (c : Plain) (b : Block) (h : Coded n (line c b)) where
+  module _ (n : ℕ) (c : Plain) (b : Block) (h : Coded n (single c b)) where
     line-here : Line K p w n c
     unfolding size code
     line-here = record {

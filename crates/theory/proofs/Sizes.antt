@@ -10,16 +10,17 @@ use lib.ListN.{length, length-append, length-map}
 use lib.Dec.{eqb, ltb}
 use borrow.Author.Tests.{le-ltb}
 use Rattle.theory.specs.Limits
-use Rattle.theory.specs.Basics.{given}
+use Rattle.theory.specs.Basics.{given, EachOf}
 use Rattle.theory.specs.ProgramText.{Plain, clear, increment, copy, Kind, loop, while, Command, plain, closes, above, indices}
-use Rattle.theory.specs.ProgramText.{variables, Block, end, line, pair, lines, block-of}
+use Rattle.theory.specs.ProgramText.{variables, Block, empty, single, pair, lines, block-of}
 use Rattle.theory.specs.Source.{deeper}
 use Rattle.theory.specs.Word.{byte-of, one, Instruction, append, forward, backward, cases, kind, operand, Entry, entry-of, table-of}
 use Rattle.theory.specs.Word.{spell-entries, spell, bytes-of}
-use Rattle.theory.specs.Translation.{register, scratch, counter, clearing, sharing, returning, touching, copying, plain-code}
+use Rattle.theory.specs.Runs.{register}
+use Rattle.theory.specs.Translation.{scratch, counter, clearing, sharing, returning, touching, copying, plain-code}
 use Rattle.theory.specs.Translation.{before-body, after-body, code, word, word-of, word-text}
-use Rattle.theory.specs.TurnedDown.{done, total, entry-size, first-along, names-register, lacks, rule-15, read-word-for}
-use Rattle.theory.specs.Claims.{Accepted, EachOf, NamesAtMost, Sized, WordsFit}
+use Rattle.theory.specs.TurnedDown.{done, total, entry-size, next-byte, first-along, names-register, lacks, rule-15, read-word-for}
+use Rattle.theory.specs.Claims.{Accepted, NamesAtMost, Sized, WordsFit}
 use Rattle.theory.proofs.Nesting.{nest, shallow, short, few-variables, well-nested}
 use Rattle.theory.proofs.Faults.{neither}
 use Rattle.theory.proofs.Words.{total-length, GoodTable, entries-of-word, word-accepted}
@@ -105,11 +106,11 @@ abbrev pub ends-weight : ℕ → ℕ → Kind → ℕ → ℕ → ℕ
 ends-weight K d k i m = weight (before-body K d k i m) + (operand (after-body k m) + kind (after-body k m))
 
 module _ (K d : ℕ) where
-  pub length-line : (c : Plain) (b : Block) → length (code K d (line c b)) ≡ length (plain-code K c) + length (code K d b)
+  pub length-line : (c : Plain) (b : Block) → length (code K d (single c b)) ≡ length (plain-code K c) + length (code K d b)
   unfolding code
   length-line c b = length-append (plain-code K c) (code K d b)
 
-  pub weight-line : (c : Plain) (b : Block) → weight (code K d (line c b)) ≡ weight (plain-code K c) + weight (code K d b)
+  pub weight-line : (c : Plain) (b : Block) → weight (code K d (single c b)) ≡ weight (plain-code K c) + weight (code K d b)
   unfolding code
   weight-line c b = weight-append (plain-code K c) (code K d b)
 
@@ -149,8 +150,8 @@ before-short while = omega arith
 
 pub code-length : (K d : ℕ) (b : Block) → length (code K d b) ≤ 12 * length (lines b)
 unfolding code
-code-length K d end = omega arith
-code-length K d (line c b) = omega (arith, code-length K d b, length-line K d c b, length-plain K c, plain-short c)
+code-length K d empty = omega arith
+code-length K d (single c b) = omega (arith, code-length K d b, length-line K d c b, length-plain K c, plain-short c)
 code-length K d (pair k i body b) =
     omega (
       arith,
@@ -187,8 +188,8 @@ deeper-room while d e h = omega arith
 pub code-weight : (K d e : ℕ) (b : Block) → K ≤ 32 → variables (lines b) ≤ 32 → d + e ≤ 16 → nest b ≤ e
     → weight (code K d b) ≤ length (lines b) * (251 + 24 * e)
 unfolding code
-code-weight K d e end h l s n = omega arith
-code-weight K d e (line c b) h l s n =
+code-weight K d e empty h l s n = omega arith
+code-weight K d e (single c b) h l s n =
     omega (arith, code-weight K d e b h (omega arith) s n, weight-line K d c b, weight-plain K c, plain-light K c h (omega arith))
 code-weight K d zero (pair k i body b) h l s n = absurd (omega arith)
 code-weight K d (suc e) (pair k i body b) h l s n =
@@ -294,8 +295,8 @@ module _ (most : ℕ) where
 
 pub code-fits : (K d : ℕ) (b : Block) → variables (lines b) ≤ K → d + nest b ≤ 16 → EachOf (Fits (K + 17)) (code K d b)
 unfolding code
-code-fits K d end l s = tt
-code-fits K d (line c b) l s =
+code-fits K d empty l s = tt
+code-fits K d (single c b) l s =
     let first : _ = plain-fits (K + 17) K c (omega arith) (omega arith) in
     each-append (Fits (K + 17)) (plain-code K c) (code K d b) first (code-fits K d b (omega arith) s)
 code-fits K d (pair k i body b) l s =
@@ -329,16 +330,17 @@ sized p a =
     let deep : nest b ≤ 16 = omega (arith, shallow p a) in
     let w : length (lines b) ≤ 512 = rw e (omega (arith, short p a)) in
     record {
-      symbols = rw (spelled (word b), e) (omega (arith, code-weight K 0 16 b few (rw e few) (omega arith) deep));
-      instructions = rw e (omega (arith, code-length K 0 b));
-      operands = each-map (Fits (K + 17)) (λ i. 1 ≤ operand i) (λ i f. f .operand) (word-of p) (word-fits p a);
-      registers = each-map (Fits (K + 17)) (NamesAtMost (K + 17)) (λ i f. f .register) (word-of p) (word-fits p a);
-      variables = few-variables p a;
+      few-symbols = rw (spelled (word b), e) (omega (arith, code-weight K 0 16 b few (rw e few) (omega arith) deep));
+      few-instructions = rw e (omega (arith, code-length K 0 b));
+      operands-from-1 = each-map (Fits (K + 17)) (λ i. 1 ≤ operand i) (λ i f. f .operand) (word-of p) (word-fits p a);
+      low-registers = each-map (Fits (K + 17)) (NamesAtMost (K + 17)) (λ i f. f .register) (word-of p) (word-fits p a);
+      few-variables = few-variables p a;
     }
 
 -- So a set with 64 registers reads the word that is written, and its instructions are those of the word
 
-rule-15-passes : (most n : ℕ) (w : List Instruction) → EachOf (NamesAtMost most) w → first-along (lacks most) n (table-of w) ≡ none
+rule-15-passes : (most n : ℕ) (w : List Instruction) → EachOf (NamesAtMost most) w
+    → first-along next-byte (lacks most) n (table-of w) ≡ none
 unfolding first-along
 rule-15-passes most n [] h = refl
 rule-15-passes most n (i ∷ w) h =
@@ -353,21 +355,21 @@ unfolding word-of word spell
 word-good p s =
     record {
       some = omega arith;
-      symbols = omega (arith, s .symbols, spelled (word-of p));
-      formed = formed-of-instructions (word-of p) (s .operands);
-      instructions = omega (arith, s .instructions, length-map (word-of p) entry-of);
+      symbols = omega (arith, s .few-symbols, spelled (word-of p));
+      formed = formed-of-instructions (word-of p) (s .operands-from-1);
+      instructions = omega (arith, s .few-instructions, length-map (word-of p) entry-of);
     }
 
 pub words-fit : WordsFit
 unfolding read-word-for word-text spell rule-15
-words-fit p a = (sized p a, read, instructions-of-table (word-of p) (sized p a .operands))
+words-fit p a = (sized p a, read, instructions-of-table (word-of p) (sized p a .operands-from-1))
   where
     within-64 : EachOf (NamesAtMost Limits.most-registers) (word-of p)
     within-64 =
         let most : ℕ = variables p + 17 in
         let enough : most ≤ Limits.most-registers = omega (arith, few-variables p a) in
         let names : (i : Instruction) → NamesAtMost most i → NamesAtMost Limits.most-registers i = λ i h e. omega (arith, h e) in
-        each-map (NamesAtMost most) (NamesAtMost Limits.most-registers) names (word-of p) (sized p a .registers)
+        each-map (NamesAtMost most) (NamesAtMost Limits.most-registers) names (word-of p) (sized p a .low-registers)
 
     read : read-word-for Limits.most-registers (word-text p) ≡ done (table-of (word-of p))
     read =

@@ -9,10 +9,10 @@ use lib.ListN.{length-replicate}
 use lib.IntN.{ℤ, pos, negsuc, _-ℤ_}
 use lib.Dec.{eqb}
 use borrow.Author.Tests.{le-ltb}
-use Rattle.theory.specs.Basics.{at, put, given}
+use Rattle.theory.specs.Basics.{at, put, given, and-then}
 use Rattle.theory.specs.Runs.{Room}
 use Rattle.theory.specs.Word.{Symbol, one, Instruction, append, forward, backward, cases}
-use Rattle.theory.specs.Word.{State, branch, appended, perform-fetched, step}
+use Rattle.theory.specs.Word.{State, branch, appended, perform, step}
 use Rattle.theory.specs.Machines.{ones}
 
 -- At place q, register j with n j ones
@@ -49,7 +49,7 @@ module _ (room : Room) (w : List Instruction) where
   unfolding step standing
   appends q n a x r e v h =
       let s : State = standing q n in
-      ap (perform-fetched room s) e
+      ap (λ o. and-then o (perform room s)) e
       ∙ ap (λ b. given b (appended a s one)) (ap (λ y. room a (suc y)) (length-replicate (n a) one ∙ v) ∙ h)
 
   pub step-append : (q : ℕ) (n : ℕ → ℕ) (a x q′ : ℕ) (n′ : ℕ → ℕ) → at w q ≡ some (append one a) → n a ≡ x → room a (suc x) ≡ true
@@ -67,24 +67,24 @@ module _ (room : Room) (w : List Instruction) where
   pub step-forward : (q : ℕ) (n : ℕ → ℕ) (k q′ : ℕ) → at w q ≡ some (forward k) → q′ ≡ q + k
       → step room w (standing q n) ≡ some (standing q′ n)
   unfolding step standing
-  step-forward q n k q′ e p = ap (perform-fetched room (standing q n)) e ∙ same (ap pos (omega arith)) refl
+  step-forward q n k q′ e p = ap (λ o. and-then o (perform room (standing q n))) e ∙ same (ap pos (omega arith)) refl
 
   pub step-backward : (q : ℕ) (n : ℕ → ℕ) (k q′ : ℕ) → at w q ≡ some (backward k) → q ≡ q′ + k
       → step room w (standing q n) ≡ some (standing q′ n)
   unfolding step standing
-  step-backward q n k q′ e p = ap (perform-fetched room (standing q n)) e ∙ same (back q k q′ p) refl
+  step-backward q n k q′ e p = ap (λ o. and-then o (perform room (standing q n))) e ∙ same (back q k q′ p) refl
 
   pub step-empty : (q : ℕ) (n : ℕ → ℕ) (a q′ : ℕ) → at w q ≡ some (cases a) → n a ≡ 0 → q′ ≡ suc q
       → step room w (standing q n) ≡ some (standing q′ n)
   unfolding step standing
   step-empty q n a q′ e z p =
       let s : State = standing q n in
-      ap (perform-fetched room s) e ∙ (ap (λ x. some (branch a s (ones x))) z ∙ same (ap pos (omega arith)) refl)
+      ap (λ o. and-then o (perform room s)) e ∙ (ap (λ x. some (branch a s (ones x))) z ∙ same (ap pos (omega arith)) refl)
 
   pub step-one : (q : ℕ) (n : ℕ → ℕ) (a k q′ : ℕ) (n′ : ℕ → ℕ) → at w q ≡ some (cases a) → n a ≡ suc k → q′ ≡ q + 2 → put n a k ≡ n′
       → step room w (standing q n) ≡ some (standing q′ n′)
   unfolding step standing
   step-one q n a k q′ n′ e z p m =
       let s : State = standing q n in
-      ap (perform-fetched room s) e
+      ap (λ o. and-then o (perform room s)) e
       ∙ (ap (λ x. some (branch a s (ones x))) z ∙ same (ap pos (omega arith)) (put-ones n a k ∙ same-ones m))

@@ -9,14 +9,14 @@ use native.Mathlib.Omega.{arith}
 use lib.ListN.{length}
 use lib.Dec.{eqb}
 use borrow.Author.Tests.{eqb-true, eqb-false, eq-eqb, ne-eqb}
-use Rattle.theory.specs.Basics.{at, given, put}
-use Rattle.theory.specs.Runs.{Room, unlimited}
+use Rattle.theory.specs.Basics.{at, given, put, and-then}
+use Rattle.theory.specs.Runs.{register, Room, unlimited}
 use Rattle.theory.specs.ProgramText.{loop, while, clear, increment, copy, Command, plain, opens, closes, variables, Block, lines}
 use Rattle.theory.specs.Source as S
-use Rattle.theory.specs.Source.{State, store}
+use Rattle.theory.specs.Source.{State, set-variable}
 use Rattle.theory.specs.Word as W
 use Rattle.theory.specs.Word.{Instruction}
-use Rattle.theory.specs.Translation.{register, word}
+use Rattle.theory.specs.Translation.{word}
 use Rattle.theory.specs.declared.End.{End}
 use Rattle.theory.specs.declared.End.the-variants.{Halted}
 use Rattle.theory.proofs.Unlimited.{word-live}
@@ -29,7 +29,7 @@ use Rattle.theory.proofs.Matching.{Match}
 
 -- A command that cannot be done: an increment, or a copy, that has no room
 
-abbrev NoRoom : Room → State → Command → Type 0
+abbrev pub NoRoom : Room → State → Command → Type 0
 NoRoom room s c =
     ((i : ℕ) × (c ≡ plain (increment i)) × (room (register i) (suc (s .values i)) ≡ false))
     ⊎ ((i : ℕ) × (j : ℕ) × (c ≡ plain (copy i j)) × (room (register i) (s .values j) ≡ false))
@@ -38,11 +38,11 @@ refused : (t : Bool) (s : State) → given t s ≡ none → t ≡ false
 refused true s e = absurd (Option·none-ne-some s (sym e))
 refused false s e = refl
 
-stuck : (room : Room) (p : List Command) (s : State) (c : Command) → S.perform room p s c ≡ none → NoRoom room s c
+pub stuck : (room : Room) (p : List Command) (s : State) (c : Command) → S.perform room p s c ≡ none → NoRoom room s c
 stuck room p s (plain (clear i)) e = absurd (Option·none-ne-some _ (sym e))
 stuck room p s (plain (increment i)) e =
-    inl (i, refl, refused (room (register i) (suc (s .values i))) (store s i (suc (s .values i))) e)
-stuck room p s (plain (copy i j)) e = inr (i, j, refl, refused (room (register i) (s .values j)) (store s i (s .values j)) e)
+    inl (i, refl, refused (room (register i) (suc (s .values i))) (set-variable s i (suc (s .values i))) e)
+stuck room p s (plain (copy i j)) e = inr (i, j, refl, refused (room (register i) (s .values j)) (set-variable s i (s .values j)) e)
 stuck room p s (opens loop i) e = absurd (Option·none-ne-some _ (sym e))
 stuck room p s (opens while i) e = absurd (Option·none-ne-some _ (sym e))
 stuck room p s (closes loop i) e = absurd (Option·none-ne-some _ (sym e))
@@ -129,4 +129,22 @@ module _ (room : Room) (b : Block) where
             let ne : s .line ≢ suc (length p) = eqb-false (s .line) (suc (length p)) x in
             let l : s .line ≤ length p = omega (arith, M .to-end) in
             let c : (a : Command) × (at p (s .line) ≡ some a) = at-there p (s .line) (M .from-first) l in
-            both-full s n M (c .0) (c .1) l (stuck room p s (c .0) (sym (ap (S.perform-fetched room p s) (c .1)) ∙ e))
+            both-full s n M (c .0) (c .1) l (stuck room p s (c .0) (sym (ap (λ o. and-then o (S.perform room p s)) (c .1)) ∙ e))
+
+  -- Where every register has room for any amount, a source that has no step has halted
+  pub stuck-halted : ((r n : ℕ) → room r n ≡ true) → (s : State) (n : ℕ → ℕ) → Match room K p s n → S.step room p s ≡ none
+      → SourceEnd s ≡ some Halted
+  unfolding S.step
+  stuck-halted roomy s n M e = go (eqb (s .line) (suc (length p))) refl
+    where
+      no : (c : Command) → NoRoom room s c → ⊥
+      no c (inl (i, c-is, h)) = true≢false (sym (roomy (register i) (suc (s .values i))) ∙ h)
+      no c (inr (i, j, c-is, h)) = true≢false (sym (roomy (register i) (s .values j)) ∙ h)
+
+      go : (t : Bool) → eqb (s .line) (suc (length p)) ≡ t → SourceEnd s ≡ some Halted
+      go true x = rw x
+      go false x =
+          let ne : s .line ≢ suc (length p) = eqb-false (s .line) (suc (length p)) x in
+          let l : s .line ≤ length p = omega (arith, M .to-end) in
+          let c : (a : Command) × (at p (s .line) ≡ some a) = at-there p (s .line) (M .from-first) l in
+          absurd (no (c .0) (stuck room p s (c .0) (sym (ap (λ o. and-then o (S.perform room p s)) (c .1)) ∙ e)))

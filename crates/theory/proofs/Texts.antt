@@ -10,14 +10,14 @@ use lib.ListN.{length, length-append}
 use lib.Dec.{eqb, eqb·suc-zero}
 use borrow.Author.Tests.{eqb-true, eq-eqb, ne-eqb, le-leb, not-true}
 use Rattle.theory.specs.Limits
-use Rattle.theory.specs.Basics.{given, or-else, and-then, present, all}
-use Rattle.theory.specs.Text.{Bytes, bytes, LF, after, same, is-digit, name, decimal, name-of}
+use Rattle.theory.specs.Basics.{given, or-else, and-then, present, all, EachOf}
+use Rattle.theory.specs.Text.{Bytes, bytes, LF, following, same, is-digit, name, decimal, name-of}
 use Rattle.theory.specs.Text.{onto-first, split-lines, ends-in-LF}
 use Rattle.theory.specs.ProgramText.{clear, increment, copy, loop, while, Command, plain, opens, closes}
 use Rattle.theory.specs.ProgramText.{spelling, text-of, around, assigns, command}
 use Rattle.theory.specs.TurnedDown.{done, rule-1, rule-2}
 use Rattle.theory.specs.TurnedDown.{text-lines, text-fault, read-text}
-use Rattle.theory.specs.Claims.{Accepted, EachOf, TextRoundTrip}
+use Rattle.theory.specs.Claims.{Accepted, TextRoundTrip}
 use Rattle.theory.proofs.Faults.{none-first, none-second, and-then-some, given-some, unless-none, and-first, and-second}
 use Rattle.theory.proofs.Nesting.{LowIndices, low, short, nothing-missing, text-read, text-sound}
 use Rattle.theory.proofs.Lists.{present-some}
@@ -26,18 +26,18 @@ use Rattle.theory.proofs.Numerals.{digit-least, decimal-digits, decimal
 
 -- Given texts
 
-pub after-append : (w t : Bytes) → after w (w ++ t) ≡ some t
-unfolding after
-after-append [] t = refl
-after-append (b ∷ w) t = rw (eq-eqb b b refl) (after-append w t)
+pub following-append : (w t : Bytes) → following w (w ++ t) ≡ some t
+unfolding following
+following-append [] t = refl
+following-append (b ∷ w) t = rw (eq-eqb b b refl) (following-append w t)
 
-pub after-some : (w t u : Bytes) → after w t ≡ some u → w ++ u ≡ t
-unfolding after
-after-some [] t u h = sym (Option·some-injective t u h)
-after-some (b ∷ w) [] u h = absurd (Option·none-ne-some u h)
-after-some (b ∷ w) (c ∷ t) u h = go (eqb b c) refl (after-some w t u)
+pub following-some : (w t u : Bytes) → following w t ≡ some u → w ++ u ≡ t
+unfolding following
+following-some [] t u h = sym (Option·some-injective t u h)
+following-some (b ∷ w) [] u h = absurd (Option·none-ne-some u h)
+following-some (b ∷ w) (c ∷ t) u h = go (eqb b c) refl (following-some w t u)
   where
-    go : (x : Bool) → eqb b c ≡ x → (after w t ≡ some u → w ++ u ≡ t) → b ∷ (w ++ u) ≡ c ∷ t
+    go : (x : Bool) → eqb b c ≡ x → (following w t ≡ some u → w ++ u ≡ t) → b ∷ (w ++ u) ≡ c ∷ t
     go true e rest = ap₂ {C = Bytes} _∷_ (eqb-true b c e) (rest (rw e at h))
     go false e rest = absurd (Option·none-ne-some u (rw e at h))
 
@@ -60,12 +60,12 @@ same-iff a b = (equal a b, λ e. rw (← e) (itself a))
 pub around-some : (front back t : Bytes) (i : ℕ) → around front back t ≡ some i → front ++ (name-of i ++ back) ≡ t
 unfolding around
 around-some front back t i h =
-    let u : _ = and-then-some (after front t) _ i h in
+    let u : _ = and-then-some (following front t) _ i h in
     let f : _ = and-then-some (name (u .0)) _ i (u .2) in
     let g : _ = given-some (same back (f .0 .rest)) (f .0 .value) i (f .2) in
     let spelled : name-of (f .0 .value) ++ f .0 .rest ≡ u .0 = name-spelled (u .0) (f .0) (f .1) .whole in
     let behind : back ≡ f .0 .rest = same-iff back (f .0 .rest) .0 (g .0) in
-    ap₂ (λ j r. front ++ (name-of j ++ r)) (sym (g .1)) behind ∙ ap (λ r. front ++ r) spelled ∙ after-some front t (u .0) (u .1)
+    ap₂ (λ j r. front ++ (name-of j ++ r)) (sym (g .1)) behind ∙ ap (λ r. front ++ r) spelled ∙ following-some front t (u .0) (u .1)
 
 abbrev pub arrow : Bytes
 arrow = bytes " <- "
@@ -74,7 +74,7 @@ pub assigns-some : (back t : Bytes) (i j : ℕ) → assigns back t ≡ some (i, 
 unfolding assigns
 assigns-some back t i j h =
     let f : _ = and-then-some (name t) _ (i, j) h in
-    let u : _ = and-then-some (after arrow (f .0 .rest)) _ (i, j) (f .2) in
+    let u : _ = and-then-some (following arrow (f .0 .rest)) _ (i, j) (f .2) in
     let g : _ = and-then-some (name (u .0)) _ (i, j) (u .2) in
     let read : ℕ × ℕ = (f .0 .value, g .0 .value) in
     let s : _ = given-some (same back (g .0 .rest)) read (i, j) (g .2) in
@@ -84,7 +84,7 @@ assigns-some back t i j h =
     let i-read : i ≡ f .0 .value = ap (λ (p : ℕ × ℕ). p .0) (sym (s .1)) in
     let j-read : j ≡ g .0 .value = ap (λ (p : ℕ × ℕ). p .1) (sym (s .1)) in
     let source : name-of j ++ back ≡ u .0 = ap₂ (λ n r. name-of n ++ r) j-read behind ∙ second in
-    let right : arrow ++ (name-of j ++ back) ≡ f .0 .rest = ap (λ r. arrow ++ r) source ∙ after-some arrow (f .0 .rest) (u .0) (u .1) in
+    let right : arrow ++ (name-of j ++ back) ≡ f .0 .rest = ap (λ r. arrow ++ r) source ∙ following-some arrow (f .0 .rest) (u .0) (u .1) in
     ap₂ (λ n r. name-of n ++ r) i-read right ∙ first
 
 -- Commands
@@ -94,7 +94,7 @@ name-alone i = rw (append-nil (name-of i)) at (name-name-of i [] tt)
 
 -- The ways to read a line that are tried before the one that fits fail at its first bytes, or at what follows a name
 pub command-of-spelling : (c : Command) → command (spelling c) ≡ some c
-unfolding command spelling around assigns after same name name-of
+unfolding command spelling around assigns following same name name-of
 command-of-spelling (plain (clear i)) = rw (name-name-of i (bytes " <- 0") refl)
 command-of-spelling (plain (increment i)) =
     rw (name-name-of i (arrow ++ (name-of i ++ bytes " + 1")) refl, name-name-of i (bytes " + 1") refl, eq-eqb i i refl)

@@ -1,9 +1,9 @@
 -- Runs with a budget and unlimited runs: the steps of the one are steps of the other, what each end says of the last state, and a run that
 -- is some steps on.
-use mathlib.Core.Path.{_≡_, refl, ap, _∙_}
-use mathlib.Core.Logic.{_≢_}
+use mathlib.Core.Path.{_≡_, refl, sym, ap, _∙_}
+use mathlib.Core.Logic.{_≢_, _⊎_, inl, inr, ⊎-elim}
 use mathlib.Core.Bool.{Bool, true, false, cond, _&&_}
-use mathlib.Core.Option.{Option, none, some, Option·none-ne-some}
+use mathlib.Core.Option.{Option, none, some, Option·none-ne-some, Option·some-injective}
 use mathlib.Core.List.{List}
 use Prim.Native.Nat.{ℕ, suc, _+_, _≤_}
 use native.Mathlib.Nat.{add-zero, zero-add, suc-add, add-suc}
@@ -14,7 +14,7 @@ use lib.ListN.{length}
 use lib.Dec.{ltb, leb, eqb}
 use borrow.Author.Tests.{lt-ltb, ne-eqb, le-leb}
 use Rattle.theory.specs.Limits.{last-count}
-use Rattle.theory.specs.Basics.{at, given}
+use Rattle.theory.specs.Basics.{at, given, and-then}
 use Rattle.theory.specs.Runs.{Room, unlimited, within, Machine, run, Goes, stay, move, each}
 use Rattle.theory.specs.ProgramText.{Command, plain, opens, closes, clear, increment, copy, loop, while}
 use Rattle.theory.specs.Source as S
@@ -22,7 +22,7 @@ use Rattle.theory.specs.Word as W
 use Rattle.theory.specs.Word.{Instruction, append, forward, backward, cases}
 use Rattle.theory.specs.Claims.{SourceUnlimited, WordUnlimited}
 use Rattle.theory.specs.declared.End.{End}
-use Rattle.theory.specs.declared.End.the-variants.{Halted, Spent, Full}
+use Rattle.theory.specs.declared.End.the-variants.{Halted, Strayed, Spent, Full}
 use Rattle.theory.proofs.Budgets.{run-induction, run-step, advanced}
 use Rattle.theory.proofs.Cells.{at-within}
 
@@ -101,7 +101,7 @@ module _ (room room′ : Room) (more : (r n : ℕ) → room r n ≡ true → roo
   unfolding S.step
   source-more p s s′ = go (at p (s .line))
     where
-      go : (c : Option Command) → S.perform-fetched room p s c ≡ some s′ → S.perform-fetched room′ p s c ≡ some s′
+      go : (c : Option Command) → and-then c (S.perform room p s) ≡ some s′ → and-then c (S.perform room′ p s) ≡ some s′
       go none e = e
       go (some c) e = source-performs p s s′ c e
 
@@ -116,7 +116,7 @@ module _ (room room′ : Room) (more : (r n : ℕ) → room r n ≡ true → roo
   unfolding W.step
   word-more w s s′ = go (W.fetch w (s .place))
     where
-      go : (i : Option Instruction) → W.perform-fetched room s i ≡ some s′ → W.perform-fetched room′ s i ≡ some s′
+      go : (i : Option Instruction) → and-then i (W.perform room s) ≡ some s′ → and-then i (W.perform room′ s) ≡ some s′
       go none e = e
       go (some i) e = word-performs s s′ i e
 
@@ -125,7 +125,7 @@ pub source-live : (room : Room) (p : List Command) (s s′ : S.State) → S.step
 unfolding S.step
 source-live room p s s′ = go (at p (s .line)) refl
   where
-    go : (c : Option Command) → at p (s .line) ≡ c → S.perform-fetched room p s c ≡ some s′
+    go : (c : Option Command) → at p (s .line) ≡ c → and-then c (S.perform room p s) ≡ some s′
         → given (eqb (s .line) (suc (length p))) Halted ≡ none
     go none h e = absurd (Option·none-ne-some s′ e)
     go (some c) h e =
@@ -142,40 +142,51 @@ pub word-live : (room : Room) (w : List Instruction) (s s′ : W.State) → W.st
 unfolding W.step
 word-live room w s s′ = go (W.fetch w (s .place)) refl
   where
-    go : (i : Option Instruction) → W.fetch w (s .place) ≡ i → W.perform-fetched room s i ≡ some s′
+    go : (i : Option Instruction) → W.fetch w (s .place) ≡ i → and-then i (W.perform room s) ≡ some s′
         → W.ended-at (length w) (s .place) ≡ none
     go none h e = absurd (Option·none-ne-some s′ e)
     go (some i) h e = word-live-at w (s .place) i h
 
--- No state ends as full by itself
-pub source-not-full : (room : Room) (p : List Command) (s : S.State) → S.machine room p .ended s ≢ some Full
-source-not-full room p s = go (eqb (s .line) (suc (length p)))
+-- A source ends only as halted by itself, a word as halted or strayed; neither as spent or full
+source-ends : (room : Room) (p : List Command) (s : S.State) (e : End) → S.machine room p .ended s ≡ some e → e ≡ Halted
+source-ends room p s e = go (eqb (s .line) (suc (length p)))
   where
-    go : (t : Bool) → given t Halted ≢ some Full
-    go true e = never (cc)
-    go false e = never (cc)
+    go : (t : Bool) → given t Halted ≡ some e → e ≡ Halted
+    go true h = sym (Option·some-injective Halted e h)
+    go false h = absurd (Option·none-ne-some e h)
+
+word-ends : (room : Room) (w : List Instruction) (s : W.State) (e : End) → W.machine room w .ended s ≡ some e → (e ≡ Halted) ⊎ (e ≡ Strayed)
+word-ends room w s e = go (s .place)
+  where
+    either : (t u : Bool) → cond t (some Halted) (cond u none (some Strayed)) ≡ some e → (e ≡ Halted) ⊎ (e ≡ Strayed)
+    either true u h = inl (sym (Option·some-injective Halted e h))
+    either false true h = absurd (Option·none-ne-some e h)
+    either false false h = inr (sym (Option·some-injective Strayed e h))
+
+    go : (q : ℤ) → W.ended-at (length w) q ≡ some e → (e ≡ Halted) ⊎ (e ≡ Strayed)
+    go (pos n) h = either (eqb n (suc (length w))) (leb 1 n && leb n (length w)) h
+    go (negsuc n) h = inr (sym (Option·some-injective Strayed e h))
+
+pub source-not-full : (room : Room) (p : List Command) (s : S.State) → S.machine room p .ended s ≢ some Full
+source-not-full room p s h = let e : Full ≡ Halted = source-ends room p s Full h in never (cc)
+
+pub source-not-spent : (room : Room) (p : List Command) (s : S.State) → S.machine room p .ended s ≢ some Spent
+source-not-spent room p s h = let e : Spent ≡ Halted = source-ends room p s Spent h in never (cc)
 
 pub word-not-full : (room : Room) (w : List Instruction) (s : W.State) → W.machine room w .ended s ≢ some Full
-word-not-full room w s = go (s .place)
-  where
-    either : (t : Bool) {a b : Option End} → a ≢ some Full → b ≢ some Full → cond t a b ≢ some Full
-    either true f g = f
-    either false f g = g
+word-not-full room w s h = ⊎-elim (λ (e : Full ≡ Halted). never (cc)) (λ (e : Full ≡ Strayed). never (cc)) (word-ends room w s Full h)
 
-    go : (q : ℤ) → W.ended-at (length w) q ≢ some Full
-    go (pos n) e =
-        either (eqb n (suc (length w))) (λ f. never (cc)) (either (leb 1 n && leb n (length w)) (λ f. never (cc)) (λ f. never (cc))) e
-    go (negsuc n) e = never (cc)
+pub word-not-spent : (room : Room) (w : List Instruction) (s : W.State) → W.machine room w .ended s ≢ some Spent
+word-not-spent room w s h = ⊎-elim (λ (e : Spent ≡ Halted). never (cc)) (λ (e : Spent ≡ Strayed). never (cc)) (word-ends room w s Spent h)
 
 pub source-unlimited : SourceUnlimited
-source-unlimited p capacity b n s h =
-    let M = S.machine (within capacity) p in
-    let not-spent : run M b n s .end ≢ Spent = λ e. never (cc) in
-    let not-full : run M b n s .end ≢ Full = λ e. never (cc) in
-    let goes = goes-by (source-more (within capacity) unlimited (λ r n t. refl) p) (run-goes M b n s) in
-    (goes, run-ends M b n s not-spent not-full ∙ ap {B = Option End} some h)
+source-unlimited p capacity b n s =
+    let M = S.machine (within capacity) p in (
+      goes-by (source-more (within capacity) unlimited (λ r n t. refl) p) (run-goes M b n s),
+      λ h. run-ends M b n s (λ e. never (cc)) (λ e. never (cc)) ∙ ap {B = Option End} some h,
+    )
 
 pub word-unlimited : WordUnlimited
-word-unlimited w capacity b n s not-spent not-full =
+word-unlimited w capacity b n s =
     let M = W.machine (within capacity) w in
-    (goes-by (word-more (within capacity) unlimited (λ r n t. refl) w) (run-goes M b n s), run-ends M b n s not-spent not-full)
+    (goes-by (word-more (within capacity) unlimited (λ r n t. refl) w) (run-goes M b n s), run-ends M b n s)

@@ -2,7 +2,7 @@
 use mathlib.Core.Path.{_≡_, refl, sym, ap, _∙_, subst, fun-ext}
 use mathlib.Core.Logic.{_≢_, _⊎_, inl, inr, ⊎-elim}
 use mathlib.Core.Bool.{Bool, true, false, cond}
-use mathlib.Core.Option.{Option, none, some, Option·none-ne-some, Option·some-injective}
+use mathlib.Core.Option.{Option, none, some, Option·map, Option·none-ne-some, Option·some-injective}
 use mathlib.Core.List.{List, []}
 use Prim.Native.Nat.{ℕ, zero, suc, pred, _+_, _-_, _*_, _≤_, _<_}
 use native.Mathlib.Numerals.{add-one}
@@ -11,14 +11,14 @@ use lib.IntN.{pos}
 use lib.ListN.{length}
 use lib.Dec.{eqb, ltb}
 use borrow.Author.Tests.{eqb-true, eqb-false, lt-ltb, le-ltb, ltb-true, ltb-false}
-use Rattle.theory.specs.Basics.{at}
-use Rattle.theory.specs.Runs.{Room, Goes, stay, move, each}
+use Rattle.theory.specs.Basics.{at, and-then, default}
+use Rattle.theory.specs.Runs.{register, Room, Goes, stay, move, each}
 use Rattle.theory.specs.ProgramText.{loop, while, clear, increment, copy, Command, plain, opens, closes, variables, Block, lines}
 use Rattle.theory.specs.Source as S
 use Rattle.theory.specs.Source.{State, depth, passes-after}
 use Rattle.theory.specs.Word as W
-use Rattle.theory.specs.Translation.{register, scratch, counter, word}
-use Rattle.theory.specs.Translation.{loop-charge, endloop-charge, command-charge, charge-fetched, charge}
+use Rattle.theory.specs.Translation.{scratch, counter, word}
+use Rattle.theory.specs.Translation.{loop-charge, endloop-charge, command-charge, charge}
 use Rattle.theory.specs.Machines.{fresh-source, fresh-word, holding, ones}
 use Rattle.theory.proofs.Joins.{Onward, join, inversion, compare}
 use Rattle.theory.proofs.Steps.{standing, step-forward}
@@ -82,7 +82,7 @@ step-pays : (room : Room) (p : List Command) (s s′ : State) → S.step room p 
 unfolding S.step charge
 step-pays room p s s′ x = go (at p (s .line)) x
   where
-    go : (o : Option Command) → S.perform-fetched room p s o ≡ some s′ → 0 < charge-fetched p s o
+    go : (o : Option Command) → and-then o (S.perform room p s) ≡ some s′ → 0 < default 0 (Option·map (command-charge p s) o)
     go none y = absurd (Option·none-ne-some s′ y)
     go (some c) y = command-pays p s c
 

@@ -10,16 +10,18 @@ use lib.ListN.{length, replicate, length-append, length-map, length-replicate}
 use lib.Dec.{eqb, leb, ltb, eqb·suc-zero}
 use borrow.Author.Tests.{eqb-true, eqb-false, leb-true, le-leb, ltb-false, le-ltb, ne-eqb, not-false}
 use Rattle.theory.specs.Limits
-use Rattle.theory.specs.Basics.{given, or-else, all}
+use Rattle.theory.specs.Basics.{given, or-else, all, EachOf}
 use Rattle.theory.specs.Text.{Bytes}
 use Rattle.theory.specs.Word.{Symbol, one, hash, byte-of, is-symbol, symbol-of, Instruction, append, forward, backward, cases}
 use Rattle.theory.specs.Word.{operand, Entry, entry-of, table-of, instruction-of, spell-entries, bytes-of}
 use Rattle.theory.specs.Word.{one-before, hash-before, entries}
 use Rattle.theory.specs.Machines.{is-limited}
-use Rattle.theory.specs.TurnedDown.{done, first-failing, first-along, first-entry, entry-fault, entry-size, bad-entry, total}
+use Rattle.theory.specs.TurnedDown.{done, first-failing, entry-size, total}
+use Rattle.theory.specs.TurnedDown.{next-byte, next-entry, first-along, entry-fault, bad-entry}
 use Rattle.theory.specs.TurnedDown.{rule-11, rule-12, rule-13, rule-14, word-entries, word-fault, read-word, instructions}
-use Rattle.theory.specs.TurnedDown.{table-rule-11, table-rule-13, table-rule-14, table-fault, read-table}
-use Rattle.theory.specs.Claims.{EachOf, WordRoundTrip, TableRoundTrip}
+use Rattle.theory.specs.TurnedDown.{table-rule-11, table-fault, read-table}
+use Rattle.theory.specs.Claims.{WordRoundTrip, TableRoundTrip}
+use Rattle.theory.specs.declared.Refusal.{Refusal}
 use Rattle.theory.proofs.Faults.{none-first, none-second, neither, given-none, answer-done, unless-none, none-refused}
 use Rattle.theory.proofs.Faults.{and-first, and-second, or-first, or-second}
 
@@ -36,6 +38,12 @@ byte-of-symbol b h = go (eqb b 49) refl
     go : (t : Bool) → eqb b 49 ≡ t → byte-of (symbol-of b) ≡ b
     go true e = rw e (sym (eqb-true b 49 e))
     go false e = rw e (sym (eqb-true b 35 (rw e at h)))
+
+pub one-is-symbol : (b : ℕ) → b ≡ 49 → is-symbol b ≡ true
+one-is-symbol b h = rw h
+
+pub hash-is-symbol : (b : ℕ) → b ≡ 35 → is-symbol b ≡ true
+hash-is-symbol b h = rw h
 
 -- Rule 12 turns nothing down exactly where all bytes are symbols
 pub bytes-of-symbols : (n : ℕ) (w : Bytes) → first-failing is-symbol n w ≡ none → bytes-of (map symbol-of w) ≡ w
@@ -189,14 +197,14 @@ formed-entry : (n : ℕ) (e : Entry) → Formed e → entry-fault n e ≡ none
 formed-entry n e f =
     rw (positive (e .operand) (f .operand), le-ltb 5 (e .kind) (f .at-most), positive (e .kind) (f .kind))
 
-pub formed-of-word : (n : ℕ) (t : List Entry) → first-along entry-fault n t ≡ none → EachOf Formed t
+pub formed-of-word : (n : ℕ) (t : List Entry) → first-along next-byte entry-fault n t ≡ none → EachOf Formed t
 unfolding first-along
 formed-of-word n [] h = tt
 formed-of-word n (e ∷ t) h =
-    let rest : Option ℕ = first-along entry-fault (n + entry-size e) t in
+    let rest : Option ℕ = first-along next-byte entry-fault (n + entry-size e) t in
     (entry-formed n e (none-first (entry-fault n e) rest h), formed-of-word (n + entry-size e) t (none-second (entry-fault n e) rest h))
 
-pub word-of-formed : (n : ℕ) (t : List Entry) → EachOf Formed t → first-along entry-fault n t ≡ none
+pub word-of-formed : (n : ℕ) (t : List Entry) → EachOf Formed t → first-along next-byte entry-fault n t ≡ none
 unfolding first-along
 word-of-formed n [] f = refl
 word-of-formed n (e ∷ t) f = neither (entry-fault n e) _ (formed-entry n e (f .0)) (word-of-formed (n + entry-size e) t (f .1))
@@ -214,15 +222,15 @@ good-formed n e h =
 formed-good : (n : ℕ) (e : Entry) → Formed e → bad-entry n e ≡ none
 formed-good n e f = rw (le-leb 1 (e .kind) (f .kind), le-leb (e .kind) 5 (f .at-most), positive (e .operand) (f .operand))
 
-pub formed-of-table : (n : ℕ) (t : List Entry) → first-entry bad-entry n t ≡ none → EachOf Formed t
-unfolding first-entry
+pub formed-of-table : (n : ℕ) (t : List Entry) → first-along next-entry bad-entry n t ≡ none → EachOf Formed t
+unfolding first-along
 formed-of-table n [] h = tt
 formed-of-table n (e ∷ t) h =
-    let rest : Option ℕ = first-entry bad-entry (suc n) t in
+    let rest : Option ℕ = first-along next-entry bad-entry (suc n) t in
     (good-formed n e (none-first (bad-entry n e) rest h), formed-of-table (suc n) t (none-second (bad-entry n e) rest h))
 
-pub table-of-formed : (n : ℕ) (t : List Entry) → EachOf Formed t → first-entry bad-entry n t ≡ none
-unfolding first-entry
+pub table-of-formed : (n : ℕ) (t : List Entry) → EachOf Formed t → first-along next-entry bad-entry n t ≡ none
+unfolding first-along
 table-of-formed n [] f = refl
 table-of-formed n (e ∷ t) f = neither (bad-entry n e) _ (formed-good n e (f .0)) (table-of-formed (suc n) t (f .1))
 
@@ -236,14 +244,14 @@ first-failing-append f n (x ∷ a) b h =
     let place : suc n + length a ≡ n + suc (length a) = omega arith in
     rw (and-first (f x) _ h) (first-failing-append f (suc n) a b (and-second (f x) _ h) ∙ ap (λ m. first-failing f m b) place)
 
-pub first-along-append : (f : ℕ → Entry → Option ℕ) (n : ℕ) (t u : List Entry) → first-along f n t ≡ none
-    → first-along f n (t ++ u) ≡ first-along f (n + total t) u
+pub first-along-append : (f : ℕ → Entry → Option ℕ) (n : ℕ) (t u : List Entry) → first-along next-byte f n t ≡ none
+    → first-along next-byte f n (t ++ u) ≡ first-along next-byte f (n + total t) u
 unfolding first-along
-first-along-append f n [] u h = ap (λ m. first-along f m u) (omega arith)
+first-along-append f n [] u h = ap (λ m. first-along next-byte f m u) (omega arith)
 first-along-append f n (e ∷ t) u h =
     let m : ℕ = n + entry-size e in
     let place : m + total t ≡ n + (entry-size e + total t) = omega arith in
-    rw (none-first (f n e) _ h) (first-along-append f m t u (none-second (f n e) _ h) ∙ ap (λ k. first-along f k u) place)
+    rw (none-first (f n e) _ h) (first-along-append f m t u (none-second (f n e) _ h) ∙ ap (λ k. first-along next-byte f k u) place)
 
 pub total-append : (t u : List Entry) → total (t ++ u) ≡ total t + total u
 total-append [] u = omega arith
@@ -258,20 +266,22 @@ pub record GoodTable (t : List Entry) : Type 0 where
   pub instructions : length t ≤ Limits.most-instructions
 
 pub table-good : (t : List Entry) → table-fault t ≡ none → GoodTable t
-unfolding table-fault table-rule-11 table-rule-13 table-rule-14
+unfolding table-fault table-rule-11 rule-13 rule-14
 table-good t h =
     let sizes : _ = unless-none _ 11 0 (none-first (table-rule-11 t) _ h) in
-    let rest : or-else (table-rule-13 t) (table-rule-14 t) ≡ none = none-second (table-rule-11 t) _ h in
-    let count : _ = unless-none _ 14 Limits.most-instructions (none-second (table-rule-13 t) (table-rule-14 t) rest) in
+    let formed : Option Refusal = rule-13 next-entry bad-entry t in
+    let few : Option Refusal = rule-14 Limits.most-instructions t in
+    let rest : or-else formed few ≡ none = none-second (table-rule-11 t) _ h in
+    let count : _ = unless-none _ 14 Limits.most-instructions (none-second formed few rest) in
     record {
       some = leb-true 1 (length t) (and-first (leb 1 (length t)) _ sizes);
       symbols = leb-true (total t) Limits.most-symbols (and-second (leb 1 (length t)) _ sizes);
-      formed = formed-of-table 0 t (none-refused _ 13 (none-first (table-rule-13 t) _ rest));
+      formed = formed-of-table 0 t (none-refused _ 13 (none-first formed few rest));
       instructions = leb-true (length t) Limits.most-instructions count;
     }
 
 pub good-table : (t : List Entry) → GoodTable t → table-fault t ≡ none
-unfolding table-fault table-rule-11 table-rule-13 table-rule-14
+unfolding table-fault table-rule-11 rule-13 rule-14
 good-table t g =
     rw (
       le-leb 1 (length t) (g .some),
@@ -290,7 +300,7 @@ total-some (e ∷ t) f h = let x : 1 ≤ e .operand = f .0 .operand in omega ari
 pub entries-of-word : (t : List Entry) → EachOf Formed t → word-entries (bytes-of (spell-entries t)) ≡ t
 entries-of-word t f = ap entries (symbols-of-bytes (spell-entries t)) ∙ entries-of-spell t f
 
-word-length : (t : List Entry) → length (bytes-of (spell-entries t)) ≡ total t
+pub word-length : (t : List Entry) → length (bytes-of (spell-entries t)) ≡ total t
 word-length t = length-map (spell-entries t) byte-of ∙ total-length t
 
 -- A table that its rules don't turn down is a word that its rules don't turn down

@@ -1,4 +1,4 @@
--- What several of the other files use: what stands at a place of a list, cells, tests over lists, the first of several answers.
+-- What several of the other files use: what stands at a place of a list, cells, what there may be or not, tests and facts over lists.
 use mathlib.Core.Bool.{Bool, true, false, cond, _&&_}
 use mathlib.Core.Option.{Option, none, some}
 use mathlib.Core.List.{List, [], _∷_}
@@ -35,6 +35,11 @@ abbrev pub and-then : {A B : Type 0} → Option A → (A → Option B) → Optio
 and-then none f = none
 and-then (some x) f = f x
 
+-- What there is, or else a given thing
+abbrev pub default : {A : Type 0} → A → Option A → A
+default x none = x
+default x (some y) = y
+
 -- What there is of a list of things that may be missing
 abbrev pub present : {A : Type 0} → List (Option A) → List A
 present [] = []
@@ -59,3 +64,8 @@ all f (x ∷ l) = f x && all f l
 abbrev pub all-below : ℕ → (ℕ → Bool) → Bool
 all-below zero f = true
 all-below (suc n) f = all-below n f && f n
+
+-- The fact holds of each element
+abbrev pub EachOf : {A : Type 0} → (A → Type 0) → List A → Type 0
+EachOf P [] = Unit {0}
+EachOf P (x ∷ l) = P x × EachOf P l

@@ -1,26 +1,30 @@
 -- The claims about these definitions, stated. Each is a type of which proofs/ has one element; docs/PROMISES.md names it.
 use mathlib.Core.Path.{_≡_}
-use mathlib.Core.Logic.{_≢_, _↔_}
+use mathlib.Core.Logic.{_≢_, _⊎_, _↔_}
 use mathlib.Core.Bool.{true}
 use mathlib.Core.Option.{none, some}
-use mathlib.Core.List.{List, [], _∷_, map}
+use mathlib.Core.List.{List, map}
 use Prim.Native.Nat.{ℕ, suc, _+_, _<_, _≤_}
 use lib.ListN.{length}
 use Rattle.theory.specs.Limits
+use Rattle.theory.specs.Basics.{at, EachOf}
 use Rattle.theory.specs.Text.{Bytes}
-use Rattle.theory.specs.ProgramText.{Command, variables, Block, lines, text-of, list-of}
+use Rattle.theory.specs.ProgramText.{Command, plain, increment, copy, variables, Block, lines, block-of, text-of, list-of}
 use Rattle.theory.specs.Runs.{Machine, run, Goes, each, unlimited, within}
 use Rattle.theory.specs.Source as S
 use Rattle.theory.specs.Word as W
-use Rattle.theory.specs.Word.{Instruction, Entry, operand, kind, table-of, spell, spell-entries, bytes-of}
+use Rattle.theory.specs.Word.{Symbol, Instruction, append, Entry, operand, kind, table-of, spell, spell-entries, bytes-of}
 use Rattle.theory.specs.Translation.{word, word-of, word-text, charge}
-use Rattle.theory.specs.Machines.{fresh-source, fresh-word, holding, SourceState, run-source, Memory, Position, run-word, is-memory, contents, refilled}
-use Rattle.theory.specs.TurnedDown.{done, program-fault, read-text, read-list, read-word, read-word-for, read-table, table-fault, instructions, is-source, names-register}
+use Rattle.theory.specs.Machines.{fresh-source, fresh-word, holding, SourceState, run-source, Memory, Position, run-word}
+use Rattle.theory.specs.Machines.{is-memory, contents, refilled}
+use Rattle.theory.specs.TurnedDown.{done, program-fault, read-text, read-list, read-word, read-word-for, read-table, table-fault}
+use Rattle.theory.specs.TurnedDown.{instructions, is-source, names-register}
 use Rattle.theory.specs.RunTool.{tool-source, tool-word}
 use Rattle.theory.specs.declared.End.{End}
 use Rattle.theory.specs.declared.End.the-variants.{Halted, Strayed, Spent, Full}
 
--- A program is accepted when rules 3 to 8 don't turn its commands down. What is read from a text (rules 1 to 8) or a list (3 to 8) is such a program
+-- "a program is accepted when rules 1 to 8 (3 to 8 for a list) don't turn it down": 1 and 2 are about its text, the others about its
+-- commands
 abbrev pub Accepted : List Command → Type 0
 Accepted p = program-fault (map some p) ≡ none
 
@@ -28,6 +32,10 @@ abbrev pub ReadsAccepted : Type 0
 ReadsAccepted =
     ((t : Bytes) (p : List Command) → read-text t ≡ done p → Accepted p)
     × ((l : List ℕ) (p : List Command) → read-list l ≡ done p → Accepted p)
+
+-- and it is the lines of its block, whose word is the program's
+abbrev pub WellNested : Type 0
+WellNested = (p : List Command) → Accepted p → lines (block-of p) ≡ p
 
 -- 1. Demand 3
 
@@ -41,54 +49,96 @@ SourceRun p = Goes (S.step unlimited p) (charge p)
 abbrev pub WordRun : List Instruction → W.State → ℕ → W.State → Type 0
 WordRun w = Goes (W.step unlimited w) each
 
+-- Register i+1 has as many 1s as variable i and no #, for the first K variables; every other register is empty
+abbrev pub HoldsValues : ℕ → S.State → W.State → Type 0
+HoldsValues K s t = (r : ℕ) → 0 < r → t .registers r ≡ holding K (s .values) r
+
 -- Of a program p of K variables that start at v, and its word w
 pub record Demand3 (p : List Command) (w : List Instruction) (v : ℕ → ℕ) : Type 0 where
-  -- where the source halts its word halts, after 1 + the sum of the charges, register i+1 with as many 1s as variable i then has, all others empty
+  -- where the source halts its word halts, after 1 + the sum of the charges, and holds the variables' values
   pub halts : (c : ℕ) (s : S.State) → SourceRun p (fresh-source v) c s → Ends (S.machine unlimited p) Halted s
       → (t : W.State) × WordRun w (fresh-word (variables p) v) (1 + c) t × Ends (W.machine unlimited w) Halted t
-      × ((r : ℕ) → 0 < r → t .registers r ≡ holding (variables p) (s .values) r)
-  -- where the word halts its source halts
+      × HoldsValues (variables p) s t
+  -- where the word halts its source halts, and the word's steps and registers are these
   pub only : (m : ℕ) (t : W.State) → WordRun w (fresh-word (variables p) v) m t → Ends (W.machine unlimited w) Halted t
       → (c : ℕ) × (s : S.State) × SourceRun p (fresh-source v) c s × Ends (S.machine unlimited p) Halted s
+      × (m ≡ 1 + c) × HoldsValues (variables p) s t
+  -- the source goes on until it halts
+  pub goes-on : (c : ℕ) (s : S.State) → SourceRun p (fresh-source v) c s → S.step unlimited p s ≡ none
+      → Ends (S.machine unlimited p) Halted s
   -- the word never strays
   pub stays : (m : ℕ) (t : W.State) → WordRun w (fresh-word (variables p) v) m t → Ends (W.machine unlimited w) Strayed t → ⊥
 
--- "For every accepted program, and whatever values its variables start at": of well-nested programs of any length and any index, and so of what is read
+-- "For every accepted program, and whatever values its variables start at"; and of well-nested programs of any length and any index
+abbrev pub DemandOfPrograms : Type 0
+DemandOfPrograms = (p : List Command) → Accepted p → (v : ℕ → ℕ) → Demand3 p (word-of p) v
+
 abbrev pub DemandOfBlocks : Type 0
 DemandOfBlocks = (b : Block) (v : ℕ → ℕ) → Demand3 (lines b) (word b) v
 
-abbrev pub DemandOfPrograms : Type 0
-DemandOfPrograms =
-    ((t : Bytes) (p : List Command) → read-text t ≡ done p → (v : ℕ → ℕ) → Demand3 p (word-of p) v)
-    × ((l : List ℕ) (p : List Command) → read-list l ≡ done p → (v : ℕ → ℕ) → Demand3 p (word-of p) v)
-
--- 2. "From a fresh state, equal values and equal capacity, and where neither run ends as spent, the source is full exactly when its word is"
+-- 2. "From a fresh state, equal values and equal capacity, and where neither run ends as spent, the source is full exactly when its word
+-- is"; and the word's steps are 1 + the sum of the charges of the source's steps, which are completed ones
 abbrev pub FullTogether : Type 0
 FullTogether =
     (p : List Command) → Accepted p → (capacity : ℕ) (v : ℕ → ℕ) → ((i : ℕ) → i < variables p → v i ≤ capacity) → (b b′ : ℕ)
     → let s = run (S.machine (within capacity) p) b 0 (fresh-source v) in
     let t = run (W.machine (within capacity) (word-of p)) b′ 0 (fresh-word (variables p) v) in
-    s .end ≢ Spent → t .end ≢ Spent → (s .end ≡ Full) ↔ (t .end ≡ Full)
+    s .end ≢ Spent → t .end ≢ Spent
+    → ((s .end ≡ Full) ↔ (t .end ≡ Full)) × ((c : ℕ) × SourceRun p (fresh-source v) c (s .state) × (t .steps ≡ 1 + c))
 
--- 3. Sizes of the word of an accepted program. "No word is above 600,000 symbols; this is proved." So a set with 64 registers never turns it down
+-- "Full is given only where the step would put more than the capacity into a register or variable": from a state that rule 9 lets pass,
+-- and from any machine. A run that is full stands before such a step, which it could do on unlimited registers
+abbrev pub SourceLacksRoom : List Command → ℕ → S.State → Type 0
+SourceLacksRoom p capacity s =
+    ((i : ℕ) × (at p (s .line) ≡ some (plain (increment i))) × (capacity < suc (s .values i)))
+    ⊎ ((i : ℕ) × (j : ℕ) × (at p (s .line) ≡ some (plain (copy i j))) × (capacity < s .values j))
+
+abbrev pub WordLacksRoom : List Instruction → ℕ → W.State → Type 0
+WordLacksRoom w capacity s =
+    (x : Symbol) × (n : ℕ) × (W.fetch w (s .place) ≡ some (append x n)) × (capacity < suc (length (s .registers n)))
+
+abbrev pub SourceFull : Type 0
+SourceFull =
+    (p : List Command) → Accepted p → (s : SourceState) (b : ℕ) → is-source p s ≡ true
+    → let o = run-source p s b in
+    o .end ≡ Full → SourceLacksRoom p (s .capacity) (o .state) × ((s′ : S.State) × (S.step unlimited p (o .state) ≡ some s′))
+
+abbrev pub WordFull : Type 0
+WordFull =
+    (w : List Instruction) (m : Memory) (p : Position) (b : ℕ)
+    → let o = run-word w m p b in
+    o .end ≡ Full → WordLacksRoom w (m .capacity) (o .state) × ((t : W.State) × (W.step unlimited w (o .state) ≡ some t))
+
+-- Spent is given only where the budget is used up, or the count stands at 4,294,967,295, and the state has not ended
+abbrev pub SpentMeans : {S : Type 0} → Machine S → Type 0
+SpentMeans {S} M =
+    (b n : ℕ) (s : S)
+    → let o = run M b n s in
+    o .end ≡ Spent → ((o .steps ≡ b) ⊎ (Limits.last-count ≤ n + o .steps)) × (M .ended (o .state) ≡ none)
+
+abbrev pub SpentRightly : Type 0
+SpentRightly =
+    ((p : List Command) (capacity : ℕ) → SpentMeans (S.machine (within capacity) p))
+    × ((w : List Instruction) (capacity : ℕ) → SpentMeans (W.machine (within capacity) w))
+
+-- 3. Sizes of the word of an accepted program. "No word is above 600,000 symbols; this is proved." So a set with 64 registers never turns
+-- it down
 abbrev pub NamesAtMost : ℕ → Instruction → Type 0
 NamesAtMost most i = names-register (kind i) ≡ true → operand i ≤ most
 
-abbrev pub EachOf : {A : Type 0} → (A → Type 0) → List A → Type 0
-EachOf P [] = Unit {0}
-EachOf P (x ∷ l) = P x × EachOf P l
-
 pub record Sized (p : List Command) : Type 0 where
-  pub symbols : length (spell (word-of p)) ≤ Limits.most-symbols
-  pub instructions : length (word-of p) ≤ Limits.most-instructions
-  pub operands : EachOf (λ i. 1 ≤ operand i) (word-of p)
-  pub registers : EachOf (NamesAtMost (variables p + 17)) (word-of p)
-  pub variables : variables p ≤ suc Limits.most-index
+  pub few-symbols : length (spell (word-of p)) ≤ Limits.most-symbols
+  pub few-instructions : length (word-of p) ≤ Limits.most-instructions
+  pub operands-from-1 : EachOf (λ i. 1 ≤ operand i) (word-of p)
+  pub low-registers : EachOf (NamesAtMost (variables p + 17)) (word-of p)
+  pub few-variables : variables p ≤ suc Limits.most-index
 
 abbrev pub WordsFit : Type 0
 WordsFit =
     (p : List Command) → Accepted p
-    → Sized p × (read-word-for Limits.most-registers (word-text p) ≡ done (table-of (word-of p))) × (instructions (table-of (word-of p)) ≡ word-of p)
+    → Sized p
+    × (read-word-for Limits.most-registers (word-text p) ≡ done (table-of (word-of p)))
+    × (instructions (table-of (word-of p)) ≡ word-of p)
 
 -- 4. Reading undoes writing, and writing undoes reading (of texts in digits, which are all texts)
 abbrev pub TextRoundTrip : Type 0
@@ -121,18 +171,19 @@ BudgetsCut =
     let whole = run M (a + b) n s in
     (whole .state ≡ second .state) × (whole .steps ≡ first .steps + second .steps) × (0 < b → whole .end ≡ second .end)
 
--- 6. A bounded run that ends as halted or strayed is the unlimited run: its steps lead there, and its end is the state's
+-- 6. The steps of a bounded run are those of the unlimited run; and where it ends as halted or strayed, that run ends there so
 abbrev pub SourceUnlimited : Type 0
 SourceUnlimited =
     (p : List Command) (capacity b n : ℕ) (s : S.State)
     → let o = run (S.machine (within capacity) p) b n s in
-    o .end ≡ Halted → Goes (S.step unlimited p) each s (o .steps) (o .state) × Ends (S.machine unlimited p) Halted (o .state)
+    Goes (S.step unlimited p) each s (o .steps) (o .state) × (o .end ≡ Halted → Ends (S.machine unlimited p) Halted (o .state))
 
 abbrev pub WordUnlimited : Type 0
 WordUnlimited =
     (w : List Instruction) (capacity b n : ℕ) (s : W.State)
     → let o = run (W.machine (within capacity) w) b n s in
-    (o .end ≢ Spent) → (o .end ≢ Full) → Goes (W.step unlimited w) each s (o .steps) (o .state) × Ends (W.machine unlimited w) (o .end) (o .state)
+    Goes (W.step unlimited w) each s (o .steps) (o .state)
+    × (o .end ≢ Spent → o .end ≢ Full → Ends (W.machine unlimited w) (o .end) (o .state))
 
 -- 7. What a run hands back from a good state is good again: rule 9 and rule 10 turn it down in no later call
 abbrev pub SourceStaysGood : Type 0
@@ -144,18 +195,20 @@ SourceStaysGood =
 -- The instructions name only registers that the memory has, as rule 15 makes sure
 abbrev pub MemoryStaysGood : Type 0
 MemoryStaysGood =
-    (w : List Instruction) (m : Memory) (p : Position) (b : ℕ) → is-memory m ≡ true → EachOf (λ i. 1 ≤ operand i) w → EachOf (NamesAtMost (m .registers)) w
+    (w : List Instruction) (m : Memory) (p : Position) (b : ℕ)
+    → is-memory m ≡ true → EachOf (λ i. 1 ≤ operand i) w → EachOf (NamesAtMost (m .count)) w
     → let o = run-word w m p b in
     let m′ = refilled m (o .state .registers) in
     (is-memory m′ ≡ true) × ((r : ℕ) → 0 < r → contents m′ r ≡ o .state .registers r)
 
--- 8. Charges as printed: where the run tool prints `halted` for both, the word's count is 1 + the sum of the charges of the source's steps, which are
--- as many as it prints, and the word's registers hold the source's values
+-- 8. Charges as printed: where the run tool prints `halted` for both, the word's count is 1 + the sum of the charges of the source's
+-- steps, which are as many as it prints, and the word's registers hold the source's values
 abbrev pub ChargesAsPrinted : Type 0
 ChargesAsPrinted =
-    (t : Bytes) (p : List Command) → read-text t ≡ done p → (v : ℕ → ℕ)
+    (p : List Command) → Accepted p → (v : ℕ → ℕ)
     → let s = tool-source p v in
     let o = tool-word p v in
     s .end ≡ Halted → o .end ≡ Halted
-    → (c : ℕ) × SourceRun p (fresh-source v) c (s .state) × Goes (S.step unlimited p) each (fresh-source v) (s .steps) (s .state) × (o .steps ≡ 1 + c)
-    × ((r : ℕ) → 0 < r → o .state .registers r ≡ holding (variables p) (s .state .values) r)
+    → (c : ℕ) × SourceRun p (fresh-source v) c (s .state) × (o .steps ≡ 1 + c)
+    × Goes (S.step unlimited p) each (fresh-source v) (s .steps) (s .state)
+    × HoldsValues (variables p) (s .state) (o .state)

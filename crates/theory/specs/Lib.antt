@@ -11,4 +11,3 @@ pub mod RunSheet
 pub mod TurnedDown
 pub mod RunTool
 pub mod Claims
-pub mod Bench

@@ -1,5 +1,5 @@
 -- The limits of document 01, each under one name.
-use Prim.Native.Nat.{ℕ}
+use Prim.Native.Nat.{ℕ, suc}
 
 -- A program: "16,384 bytes, 512 lines, index 31, 16 pairs open together, LOOP and WHILE counted alike"
 abbrev pub most-bytes : ℕ
@@ -14,12 +14,12 @@ most-index = 31
 abbrev pub most-open : ℕ
 most-open = 16
 
--- A source state has 32 values and "16 passes-left, one for each number of enclosing loops"
+-- A source state has a value for each index, 0 to 31, and "16 passes-left, one for each number of enclosing loops", 0 to 15
 abbrev pub state-values : ℕ
-state-values = 32
+state-values = suc most-index
 
 abbrev pub state-passes : ℕ
-state-passes = 16
+state-passes = most-open
 
 -- A word (rules 11 and 14)
 abbrev pub most-symbols : ℕ
@@ -43,7 +43,7 @@ last-count = 4294967295
 abbrev pub most-sheet-bytes : ℕ
 most-sheet-bytes = 4096
 
--- The run tool: "64 registers, capacity 1,024, budget 100,000 for the source and 1,000,000 for the word", a word buffer of 65,536 bytes
+-- The run tool: "64 registers, capacity 1,024, budget 100,000 for the source and 1,000,000 for the word. Its word buffer has 65,536 bytes"
 abbrev pub tool-registers : ℕ
 tool-registers = 64
 

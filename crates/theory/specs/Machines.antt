@@ -43,9 +43,10 @@ pub record SourceState : Type 0 where
 unfoldable pub run-source : List Command → SourceState → ℕ → Outcome S.State
 run-source p s budget = run (S.machine (within (s .capacity)) p) budget (s .steps) (s .state)
 
--- A machine's memory: the number of registers, their capacity, "the lent store", and "Lengths are a second lent list, one for each register"
+-- A machine's memory: the number of registers, their capacity, "the lent store", and "Lengths are a second lent list, one for each
+-- register"
 pub record Memory : Type 0 where
-  pub registers : ℕ
+  pub count : ℕ
   pub capacity : ℕ
   pub store : Bytes
   pub lengths : List ℕ
@@ -84,19 +85,19 @@ is-limited most n = leb 1 n && leb n most
 -- Rule 10's sizes and layout
 unfoldable pub is-memory : Memory → Bool
 is-memory m =
-    is-limited most-registers (m .registers)
+    is-limited most-registers (m .count)
     && is-limited most-capacity (m .capacity)
-    && eqb (length (m .store)) (offset (m .capacity) (suc (m .registers)))
-    && eqb (length (m .lengths)) (m .registers)
-    && all-below (m .registers) (λ i. is-laid (m .capacity) (getD (m .lengths) i 0) (place-of m (suc i)))
+    && eqb (length (m .store)) (offset (m .capacity) (suc (m .count)))
+    && eqb (length (m .lengths)) (m .count)
+    && all-below (m .count) (λ i. is-laid (m .capacity) (getD (m .lengths) i 0) (place-of m (suc i)))
 
 -- The memory with other contents
 abbrev pub refilled : Memory → (ℕ → List Symbol) → Memory
 refilled m f = record {
-  registers = m .registers;
+  count = m .count;
   capacity = m .capacity;
-  store = store-of (m .capacity) (m .registers) f;
-  lengths = lengths-of (m .registers) f;
+  store = store-of (m .capacity) (m .count) f;
+  lengths = lengths-of (m .count) f;
 }
 
 -- The "small record of place and steps": place is a signed 32-bit number, any value; steps an unsigned 32-bit count
@@ -110,7 +111,7 @@ word-state m p = record { place = p .place; registers = contents m }
 unfoldable pub run-word : List Instruction → Memory → Position → ℕ → Outcome W.State
 run-word w m p budget = run (W.machine (within (m .capacity)) w) budget (p .steps) (word-state m p)
 
--- "The value of a halted word is register 1". Of a word that is not halted the papers say nothing: it has none
+-- "The value of a halted word is register 1". Of a word that is not halted document 01 says nothing: here it has none
 abbrev pub value-where : Option End → List Symbol → Option (List Symbol)
 value-where none xs = none
 value-where (some Halted) xs = some xs
@@ -118,5 +119,5 @@ value-where (some End.Strayed) xs = none
 value-where (some End.Spent) xs = none
 value-where (some End.Full) xs = none
 
-unfoldable pub value : List Instruction → W.State → Option (List Symbol)
-value w s = value-where (W.ended-at (length w) (s .place)) (s .registers 1)
+unfoldable pub word-value : List Instruction → W.State → Option (List Symbol)
+word-value w s = value-where (W.ended-at (length w) (s .place)) (s .registers 1)

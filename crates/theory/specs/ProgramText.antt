@@ -1,11 +1,11 @@
--- Document 01, "The program text": commands, their spellings, the list of three numbers a command, K, and blocks.
+-- Document 01, "The program text": commands, K, their spellings, the list of three numbers a command, pairs that are open, and blocks.
 use mathlib.Core.Bool.{cond}
 use mathlib.Core.Option.{Option, none, some, Option·map}
 use mathlib.Core.List.{List, [], _∷_, _++_}
 use Prim.Native.Nat.{ℕ, suc, max}
 use lib.Dec.{eqb}
 use Rattle.theory.specs.Basics.{given, or-else, and-then}
-use Rattle.theory.specs.Text.{Bytes, bytes, LF, after, same, name, name-of}
+use Rattle.theory.specs.Text.{Bytes, bytes, LF, following, same, name, name-of}
 
 -- Commands
 
@@ -59,11 +59,14 @@ text-of (c ∷ p) = spelling c ++ (LF ∷ text-of p)
 
 -- Reading: a line that is exactly a name between two given texts; one that is exactly two names around " <- ", and a given text
 unfoldable pub around : Bytes → Bytes → Bytes → Option ℕ
-around front back t = and-then (after front t) λ u. and-then (name u) λ f. given (same back (f .rest)) (f .value)
+around front back t = and-then (following front t) λ u. and-then (name u) λ f. given (same back (f .rest)) (f .value)
 
 unfoldable pub assigns : Bytes → Bytes → Option (ℕ × ℕ)
 assigns back t =
-    and-then (name t) λ f. and-then (after (bytes " <- ") (f .rest)) λ u. and-then (name u) λ g. given (same back (g .rest)) (f .value, g .value)
+    and-then (name t) λ f.
+    and-then (following (bytes " <- ") (f .rest)) λ u.
+    and-then (name u) λ g.
+    given (same back (g .rest)) (f .value, g .value)
 
 -- The command that a line spells, its indices of any size; none where it is none of the spellings (rule 4)
 unfoldable pub command : Bytes → Option Command
@@ -110,31 +113,48 @@ listed (k ∷ []) = none ∷ []
 listed (k ∷ i ∷ []) = none ∷ []
 listed (k ∷ i ∷ j ∷ l) = command-of k i j ∷ listed l
 
--- "A block is lines and pairs; a pair holds a block, which may be empty": nothing; a plain line and the rest; a pair with its body, and the rest
+-- Pairs that are open, the innermost first: the line that opened each, its kind and its variable
+pub record Opening : Type 0 where
+  pub line : ℕ
+  pub kind : Kind
+  pub index : ℕ
+
+-- The pairs open after line n, by those open before it
+abbrev pub open-next : ℕ → List Opening → Command → List Opening
+open-next n os (plain c) = os
+open-next n os (opens k i) = record { line = n; kind = k; index = i } ∷ os
+open-next n [] (closes k i) = []
+open-next n (o ∷ os) (closes k i) = os
+
+-- "A block is lines and pairs; a pair holds a block, which may be empty": nothing; a plain line and the rest; a pair with its body, and
+-- the rest
 pub data Block : Type 0 where
-  end : Block
-  line : Plain → Block → Block
+  empty : Block
+  single : Plain → Block → Block
   pair : Kind → ℕ → Block → Block → Block
 
 abbrev pub lines : Block → List Command
-lines end = []
-lines (line c b) = plain c ∷ lines b
+lines empty = []
+lines (single c b) = plain c ∷ lines b
 lines (pair k i body b) = opens k i ∷ (lines body ++ (closes k i ∷ lines b))
 
--- A program's blocks, read from its last line to its first: the block that begins here, and those that follow each pair open here
+-- A program's blocks, read from its last line to its first: the block that begins here, and those that follow each pair open here. So of
+--   loop X0          first: a pair of the block of line 2, and nothing after it    later: none
+--   X1 <- X1 + 1     first: the increment                                          later: the empty block after the pair
+--   endloop X0       first: the empty block, that ends the body                    later: the empty block after the pair
 pub record Blocks : Type 0 where
   pub first : Block
   pub later : List Block
 
 abbrev pub opened-by : Kind → ℕ → Block → List Block → Blocks
-opened-by k i b [] = record { first = pair k i b end; later = [] }
+opened-by k i b [] = record { first = pair k i b empty; later = [] }
 opened-by k i b (b′ ∷ bs) = record { first = pair k i b b′; later = bs }
 
 unfoldable pub blocks : List Command → Blocks
-blocks [] = record { first = end; later = [] }
-blocks (plain c ∷ p) = let r = blocks p in record { first = line c (r .first); later = r .later }
+blocks [] = record { first = empty; later = [] }
+blocks (plain c ∷ p) = let r = blocks p in record { first = single c (r .first); later = r .later }
 blocks (opens k i ∷ p) = let r = blocks p in opened-by k i (r .first) (r .later)
-blocks (closes k i ∷ p) = let r = blocks p in record { first = end; later = r .first ∷ r .later }
+blocks (closes k i ∷ p) = let r = blocks p in record { first = empty; later = r .first ∷ r .later }
 
 -- The block of a program; of one that is well-nested `lines` gives the program again
 unfoldable pub block-of : List Command → Block

@@ -1,11 +1,11 @@
 -- Document 01, "Run sheet and run tool": the text that the run tool prints, whole, from the program's text and the sheet's.
-use mathlib.Core.Option.{Option, none, some}
+use mathlib.Core.Option.{Option}
 use mathlib.Core.List.{List, [], _∷_, _++_}
 use Prim.Native.Nat.{ℕ}
 use lib.ListN.{length}
 use lib.Dec.{leb}
 use Rattle.theory.specs.Limits
-use Rattle.theory.specs.Basics.{or-else}
+use Rattle.theory.specs.Basics.{or-else, default}
 use Rattle.theory.specs.Text.{Bytes, bytes, decimal, line-of, split-lines}
 use Rattle.theory.specs.ProgramText.{Command, variables}
 use Rattle.theory.specs.Runs.{Outcome, run, within}
@@ -25,7 +25,8 @@ end-name Strayed = bytes "strayed"
 end-name Spent = bytes "spent"
 end-name Full = bytes "full"
 
--- The two runs of a line: the source's, and its word's, from fresh states of the same values, with the tool's capacity and budgets
+-- The two runs of a line: the source's, and its word's, from fresh states of the same values, with the tool's capacity and budgets. The
+-- tool's 64 registers don't show here: a word names fewer (claim `WordsFit`), so that rule 15 never turns it down
 unfoldable pub tool-source : List Command → (ℕ → ℕ) → Outcome S.State
 tool-source p v = run (S.machine (within Limits.tool-capacity) p) Limits.tool-source-budget 0 (fresh-source v)
 
@@ -39,12 +40,8 @@ header = line-of (bytes "source-end" ∷ bytes "source-steps" ∷ bytes "word-en
 unfoldable pub shown : Outcome S.State → Outcome W.State → Bytes
 shown s w = line-of (end-name (s .end) ∷ decimal (s .steps) ∷ end-name (w .end) ∷ decimal (w .steps) ∷ decimal (s .state .values 0) ∷ [])
 
-abbrev pub values-or-none : Option (List ℕ) → List ℕ
-values-or-none none = []
-values-or-none (some vs) = vs
-
 unfoldable pub row : List Command → List ℕ → Bytes → Bytes
-row p ns l = let v = start ns (values-or-none (values l)) in shown (tool-source p v) (tool-word p v)
+row p ns l = let v = start ns (default [] (values l)) in shown (tool-source p v) (tool-word p v)
 
 unfoldable pub rows : List Command → List ℕ → List Bytes → Bytes
 rows p ns [] = []
@@ -56,7 +53,9 @@ rows-of p (l ∷ ls) = rows p (names-of (l ∷ ls)) ls
 
 -- "Its word buffer has 65,536 bytes; a longer word is 19", after the sheet
 unfoldable pub tool-fault : List Command → Bytes → Option Refusal
-tool-fault p sheet = or-else (sheet-fault Limits.tool-capacity (variables p) sheet) (unless (leb (length (word-text p)) Limits.tool-word-bytes) 19 0)
+tool-fault p sheet =
+    or-else (sheet-fault Limits.tool-capacity (variables p) sheet)
+    (unless (leb (length (word-text p)) Limits.tool-word-bytes) 19 0)
 
 -- "After the header comes a line for each run"
 unfoldable pub tool-answer : Bytes → Bytes → Answer Bytes

@@ -1,4 +1,5 @@
--- Document 01, "Machines of the set": what both machines share. Room, a step machine, a run with a budget, and unlimited runs with their cost.
+-- Document 01, "Machines of the set": what both machines share. Room, a machine that steps, a run with a budget, and unlimited runs with
+-- their cost.
 use mathlib.Core.Path.{_≡_}
 use mathlib.Core.Bool.{Bool, true, false}
 use mathlib.Core.Option.{Option, none, some}
@@ -7,6 +8,10 @@ use lib.Dec.{leb, ltb}
 use Rattle.theory.specs.Limits.{last-count}
 use Rattle.theory.specs.declared.End.{End}
 use Rattle.theory.specs.declared.End.the-variants.{Spent, Full}
+
+-- "Variable i is register i+1"
+abbrev pub register : ℕ → ℕ
+register i = i + 1
 
 -- `room r n`: register r may hold n symbols. A variable has the room of its register
 abbrev pub Room : Type 0
@@ -38,8 +43,8 @@ module _ {S : Type 0} (M : Machine S) where
   abbrev pub stepped : Outcome S → Outcome S
   stepped o = record { end = o .end; steps = suc (o .steps); state = o .state }
 
-  -- A run with a budget, from a state whose count of steps is n. "Checked before each step: halted or strayed, then spent, then full"; "a run
-  -- whose count stands at 4,294,967,295 ends as spent"
+  -- A run with a budget, from a state whose count of steps is n. "Checked before each step: halted or strayed, then spent, then full"; "a
+  -- run whose count stands at 4,294,967,295 ends as spent"; a step that is full "is neither done nor counted"
   unfoldable pub run : ℕ → ℕ → S → Outcome S
   run zero n s = elim (M .ended s) [ some e ↦ stop e s | none ↦ stop Spent s ]
   run (suc budget) n s =

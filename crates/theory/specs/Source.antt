@@ -1,12 +1,12 @@
 -- Document 01, "The program text", the source steps (the meaning of source document 001). Lines count from 1.
-use mathlib.Core.Option.{Option, none, some}
+use mathlib.Core.Option.{Option, some}
 use mathlib.Core.List.{List, [], _∷_}
-use Prim.Native.Nat.{ℕ, zero, suc, _+_, _-_, pred}
+use Prim.Native.Nat.{ℕ, zero, suc, _+_, pred}
 use lib.ListN.{length, take, drop}
 use lib.Dec.{eqb}
-use Rattle.theory.specs.Basics.{at, put, given}
-use Rattle.theory.specs.Runs.{Room, Machine}
-use Rattle.theory.specs.ProgramText.{clear, increment, copy, Kind, loop, while, Command, plain, opens, closes}
+use Rattle.theory.specs.Basics.{at, put, given, and-then}
+use Rattle.theory.specs.Runs.{register, Room, Machine}
+use Rattle.theory.specs.ProgramText.{clear, increment, copy, Kind, loop, while, Command, plain, opens, closes, Opening, open-next}
 use Rattle.theory.specs.declared.End.the-variants.{Halted}
 
 -- Partner lines
@@ -23,21 +23,10 @@ ahead (closes k i ∷ l) (suc n) = suc (ahead l n)
 unfoldable pub closing : List Command → ℕ → ℕ
 closing p n = suc n + ahead (drop n p) 0
 
--- A pair that is open: its opening line and its kind
-pub record Opening : Type 0 where
-  pub line : ℕ
-  pub kind : Kind
-
-abbrev pub closed : List Opening → List Opening
-closed [] = []
-closed (o ∷ os) = os
-
--- The pairs open after some lines, the first of them line n; innermost first
+-- The pairs open after some lines, the first of them line n
 abbrev pub open-after : List Command → ℕ → List Opening → List Opening
 open-after [] n os = os
-open-after (plain c ∷ l) n os = open-after l (suc n) os
-open-after (opens k i ∷ l) n os = open-after l (suc n) (record { line = n; kind = k } ∷ os)
-open-after (closes k i ∷ l) n os = open-after l (suc n) (closed os)
+open-after (c ∷ l) n os = open-after l (suc n) (open-next n os c)
 
 -- The pairs whose body or closing line holds line n
 unfoldable pub open-at : List Command → ℕ → List Opening
@@ -60,9 +49,13 @@ abbrev pub loops : List Opening → ℕ
 loops [] = 0
 loops (o ∷ os) = deeper (o .kind) (loops os)
 
--- The number of loops whose body or `endloop` holds line n. At a loop's `loop` line that is its d, the number of loops enclosing it; at its `endloop`, d + 1
+-- The number of loops whose body or `endloop` holds line n. At a loop's `loop` line that is its d, the number of loops enclosing it
 unfoldable pub depth : List Command → ℕ → ℕ
 depth p n = loops (open-at p n)
+
+-- At its `endloop`, which the loop holds too, its d is one less
+abbrev pub depth-closing : List Command → ℕ → ℕ
+depth-closing p n = pred (depth p n)
 
 -- The step
 
@@ -76,45 +69,46 @@ abbrev pub go-to : State → ℕ → State
 go-to s n = record { line = n; values = s .values; passes = s .passes }
 
 -- variable i becomes x, and the next line is next
-abbrev pub store : State → ℕ → ℕ → State
-store s i x = record { line = suc (s .line); values = put (s .values) i x; passes = s .passes }
+abbrev pub set-variable : State → ℕ → ℕ → State
+set-variable s i x = record { line = suc (s .line); values = put (s .values) i x; passes = s .passes }
+
+-- the passes left of the loop inside d enclosing loops become k, and line n is next
+abbrev pub set-passes : State → ℕ → ℕ → ℕ → State
+set-passes s d k n = record { line = n; values = s .values; passes = put (s .passes) d k }
 
 -- `loop`: "takes the value k as passes left; 0 goes past its `endloop`"
 abbrev pub begin-loop : List Command → State → ℕ → State
 begin-loop p s zero = go-to s (suc (closing p (s .line)))
-begin-loop p s (suc k) = record { line = suc (s .line); values = s .values; passes = put (s .passes) (depth p (s .line)) (suc k) }
+begin-loop p s (suc k) = set-passes s (depth p (s .line)) (suc k) (suc (s .line))
 
 -- the passes left of the loop that the line closes, after they "fall by 1"
 abbrev pub passes-after : List Command → State → ℕ
-passes-after p s = pred (s .passes (pred (depth p (s .line))))
+passes-after p s = pred (s .passes (depth-closing p (s .line)))
 
 -- `endloop`, with that many passes left: "goes to the first line of the body, or past if 0"
 abbrev pub end-loop : List Command → State → ℕ → State
-end-loop p s zero = record { line = suc (s .line); values = s .values; passes = put (s .passes) (pred (depth p (s .line))) 0 }
-end-loop p s (suc k) = record { line = suc (opening p (s .line)); values = s .values; passes = put (s .passes) (pred (depth p (s .line))) (suc k) }
+end-loop p s zero = set-passes s (depth-closing p (s .line)) 0 (suc (s .line))
+end-loop p s (suc k) = set-passes s (depth-closing p (s .line)) (suc k) (suc (opening p (s .line)))
 
 -- `while`: "0 goes past its `endwhile`"
 abbrev pub begin-while : List Command → State → ℕ → State
 begin-while p s zero = go-to s (suc (closing p (s .line)))
 begin-while p s (suc k) = go-to s (suc (s .line))
 
--- A command at the state's line; none where it would put more into a variable than there is room for in its register. `endwhile` "goes to its `while`"
+-- A command at the state's line; none where it would put more into a variable than there is room for in its register. `endwhile` "goes to
+-- its `while`"
 abbrev pub perform : Room → List Command → State → Command → Option State
-perform room p s (plain (clear i)) = some (store s i 0)
-perform room p s (plain (increment i)) = given (room (i + 1) (suc (s .values i))) (store s i (suc (s .values i)))
-perform room p s (plain (copy i j)) = given (room (i + 1) (s .values j)) (store s i (s .values j))
+perform room p s (plain (clear i)) = some (set-variable s i 0)
+perform room p s (plain (increment i)) = given (room (register i) (suc (s .values i))) (set-variable s i (suc (s .values i)))
+perform room p s (plain (copy i j)) = given (room (register i) (s .values j)) (set-variable s i (s .values j))
 perform room p s (opens loop i) = some (begin-loop p s (s .values i))
 perform room p s (closes loop i) = some (end-loop p s (passes-after p s))
 perform room p s (opens while i) = some (begin-while p s (s .values i))
 perform room p s (closes while i) = some (go-to s (opening p (s .line)))
 
-abbrev pub perform-fetched : Room → List Command → State → Option Command → Option State
-perform-fetched room p s none = none
-perform-fetched room p s (some c) = perform room p s c
-
 -- One step; none where the state is full, or at no line of the program
 unfoldable pub step : Room → List Command → State → Option State
-step room p s = perform-fetched room p s (at p (s .line))
+step room p s = and-then (at p (s .line)) (perform room p s)
 
 -- The source "halts at the line after its last"
 abbrev pub machine : Room → List Command → Machine State

@@ -27,11 +27,11 @@ pub record Found (A : Type 0) : Type 0 where
   pub value : A
   pub rest : Bytes
 
--- What follows a given text
-unfoldable pub after : Bytes → Bytes → Option Bytes
-after [] t = some t
-after (b ∷ w) [] = none
-after (b ∷ w) (c ∷ t) = cond (eqb b c) (after w t) none
+-- What follows a given text, where the bytes begin with it
+unfoldable pub following : Bytes → Bytes → Option Bytes
+following [] t = some t
+following (b ∷ w) [] = none
+following (b ∷ w) (c ∷ t) = cond (eqb b c) (following w t) none
 
 unfoldable pub same : Bytes → Bytes → Bool
 same [] [] = true

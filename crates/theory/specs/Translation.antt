@@ -1,27 +1,26 @@
 -- Document 01, "Translation": the word of a program, and the charges on its source's steps.
 use mathlib.Core.Bool.{cond}
-use mathlib.Core.Option.{Option, none, some}
+use mathlib.Core.Option.{Option·map}
 use mathlib.Core.List.{List, [], _∷_, _++_}
 use Prim.Native.Nat.{ℕ, zero, suc, _+_, _*_}
 use lib.ListN.{length}
 use lib.Dec.{eqb}
-use Rattle.theory.specs.Basics.{at}
+use Rattle.theory.specs.Basics.{at, default}
 use Rattle.theory.specs.Text.{Bytes}
-use Rattle.theory.specs.ProgramText.{Plain, clear, increment, copy, Kind, loop, while, Command, plain, opens, closes, variables, Block, end, line, pair, lines, block-of}
+use Rattle.theory.specs.ProgramText.{Plain, clear, increment, copy, Kind, loop, while, Command, plain, opens, closes, variables}
+use Rattle.theory.specs.ProgramText.{Block, empty, single, pair, lines, block-of}
+use Rattle.theory.specs.Runs.{register}
 use Rattle.theory.specs.Source.{State, deeper, passes-after}
 use Rattle.theory.specs.Word.{one, Instruction, append, forward, backward, cases, spell, bytes-of}
 
--- "Variable i is register i+1. Scratch t is register K+1. A loop inside d enclosing loops (WHILEs not counted) has counter c = K+2+d"
-abbrev pub register : ℕ → ℕ
-register i = i + 1
-
+-- "Scratch t is register K+1. A loop inside d enclosing loops (WHILEs not counted) has counter c = K+2+d"
 abbrev pub scratch : ℕ → ℕ
 scratch K = K + 1
 
 abbrev pub counter : ℕ → ℕ → ℕ
 counter K d = K + 2 + d
 
--- C a, F2, B2
+-- "Clear: C a, F2, B2"
 abbrev pub clearing : ℕ → List Instruction
 clearing a = cases a ∷ forward 2 ∷ backward 2 ∷ []
 
@@ -41,7 +40,7 @@ touching a = cases a ∷ forward 2 ∷ append one a ∷ []
 abbrev pub copying : ℕ → ℕ → ℕ → List Instruction
 copying a b t = clearing b ++ (sharing a b t ++ returning t a)
 
--- A plain line of a program of K variables
+-- A plain line of a program of K variables. "Increment: +a"
 abbrev pub plain-code : ℕ → Plain → List Instruction
 plain-code K (clear i) = clearing (register i)
 plain-code K (increment i) = append one (register i) ∷ []
@@ -60,8 +59,8 @@ after-body while m = backward (m + 3)
 
 -- A block that stands inside d loops
 unfoldable pub code : ℕ → ℕ → Block → List Instruction
-code K d end = []
-code K d (line c b) = plain-code K c ++ code K d b
+code K d empty = []
+code K d (single c b) = plain-code K c ++ code K d b
 code K d (pair k i body b) =
     let inner = code K (deeper k d) body in
     before-body K d k i (length inner) ++ (inner ++ (after-body k (length inner) ∷ code K d b))
@@ -76,15 +75,19 @@ word-of p = word (block-of p)
 unfoldable pub word-text : List Command → Bytes
 word-text p = bytes-of (spell (word-of p))
 
--- Charges: "Each goes by the values before its step, `endloop` by the passes left after the fall". `loop` from the value k, `endloop` from the passes left
+-- Charges: "Each goes by the values before its step, `endloop` by the passes left after the fall"
+
+-- "`loop` 7k+5, or 6 if k is 0"
 abbrev pub loop-charge : ℕ → ℕ
 loop-charge zero = 6
 loop-charge (suc k) = 7 * suc k + 5
 
+-- "`endloop` 2 if passes remain, else 3"
 abbrev pub endloop-charge : ℕ → ℕ
 endloop-charge zero = 3
 endloop-charge (suc k) = 2
 
+-- "increment 1; clear of y 2y+2; copy of x over y 2y+7x+6; copy to itself 2; … `while` 2; `endwhile` 1"
 abbrev pub command-charge : List Command → State → Command → ℕ
 command-charge p s (plain (clear i)) = 2 * s .values i + 2
 command-charge p s (plain (increment i)) = 1
@@ -94,10 +97,6 @@ command-charge p s (closes loop i) = endloop-charge (passes-after p s)
 command-charge p s (opens while i) = 2
 command-charge p s (closes while i) = 1
 
-abbrev pub charge-fetched : List Command → State → Option Command → ℕ
-charge-fetched p s none = 0
-charge-fetched p s (some c) = command-charge p s c
-
 -- The charge of the step that a state is about to do
 unfoldable pub charge : List Command → State → ℕ
-charge p s = charge-fetched p s (at p (s .line))
+charge p s = default 0 (Option·map (command-charge p s) (at p (s .line)))

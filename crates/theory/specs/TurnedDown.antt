@@ -6,12 +6,16 @@ use Prim.Native.Nat.{ℕ, suc, _+_}
 use lib.ListN.{length, take, drop}
 use lib.Dec.{eqb, ltb, leb}
 use Rattle.theory.specs.Limits
-use Rattle.theory.specs.Basics.{given, or-else, and-then, present, all, all-below}
+use Rattle.theory.specs.Basics.{given, or-else, and-then, default, present, all, all-below}
 use Rattle.theory.specs.Text.{Bytes, split-lines, ends-in-LF}
-use Rattle.theory.specs.ProgramText.{Kind, loop, while, Command, plain, opens, closes, indices, above, variables, command, listed}
+use Rattle.theory.specs.ProgramText.{Kind, loop, while, Command, plain, opens, closes, indices, above, variables, command}
+use Rattle.theory.specs.ProgramText.{listed, list-of, text-of, Opening, open-next}
+use Rattle.theory.specs.Runs.{Outcome}
 use Rattle.theory.specs.Source as S
-use Rattle.theory.specs.Word.{Entry, Instruction, is-symbol, symbol-of, entries, instruction-of}
-use Rattle.theory.specs.Machines.{SourceState, Memory, is-memory, is-limited}
+use Rattle.theory.specs.Word as W
+use Rattle.theory.specs.Word.{Entry, Instruction, is-symbol, symbol-of, entries, instruction-of, spell-entries, bytes-of}
+use Rattle.theory.specs.Translation.{word-text}
+use Rattle.theory.specs.Machines.{SourceState, run-source, Memory, Position, run-word, is-memory, is-limited}
 use Rattle.theory.specs.RunSheet.{names, values, distinct}
 use Rattle.theory.specs.declared.Refusal.{Refusal}
 
@@ -55,43 +59,34 @@ rule-2 t = unless (eqb (length t) 0 || ends-in-LF t) 2 (length (split-lines t))
 unfoldable pub rule-3 : {A : Type 0} → List A → Option Refusal
 rule-3 l = unless (leb (length l) Limits.most-lines) 3 (suc Limits.most-lines)
 
--- A pair that is open, with its line and index
-pub record Open : Type 0 where
-  pub line : ℕ
-  pub kind : Kind
-  pub index : ℕ
-
 abbrev pub same-kind : Kind → Kind → Bool
 same-kind loop loop = true
 same-kind loop while = false
 same-kind while loop = false
 same-kind while while = true
 
--- "A pair opens with 16 open"; "A closing line doesn't match the innermost open pair in kind and index, or none is open"
-abbrev pub pair-fault : ℕ → List Open → Command → Option Refusal
+-- 6, "A pair opens with 16 open"; 7, "A closing line doesn't match the innermost open pair in kind and index, or none is open"
+abbrev pub pair-fault : ℕ → List Opening → Command → Option Refusal
 pair-fault n os (plain c) = none
 pair-fault n os (opens k i) = unless (ltb (length os) Limits.most-open) 6 n
 pair-fault n [] (closes k i) = refuse 7 n
 pair-fault n (o ∷ os) (closes k i) = unless (same-kind k (o .kind) && eqb i (o .index)) 7 n
 
--- Line n, under the pairs open there: 4, none of the spellings; 5, an index above 31; then 6 and 7
-abbrev pub line-fault : ℕ → List Open → Option Command → Option Refusal
+-- Line n, under the pairs open there: 4, "A line is none of the spellings"; 5, "An index is above 31"; then 6 and 7
+abbrev pub line-fault : ℕ → List Opening → Option Command → Option Refusal
 line-fault n os none = refuse 4 n
 line-fault n os (some c) = or-else (unless (leb (above (indices c)) (suc Limits.most-index)) 5 n) (pair-fault n os c)
 
--- The pairs open after a line
-abbrev pub open-next : ℕ → List Open → Option Command → List Open
-open-next n os none = os
-open-next n os (some (plain c)) = os
-open-next n os (some (opens k i)) = record { line = n; kind = k; index = i } ∷ os
-open-next n [] (some (closes k i)) = []
-open-next n (o ∷ os) (some (closes k i)) = os
+-- The pairs open after it
+abbrev pub open-past : ℕ → List Opening → Option Command → List Opening
+open-past n os none = os
+open-past n os (some c) = open-next n os c
 
 -- "rules 4 to 7 go line by line, first faulty line first"; then 8, "A pair is left open (place the innermost opening line)"
-unfoldable pub lines-fault : ℕ → List Open → List (Option Command) → Option Refusal
+unfoldable pub lines-fault : ℕ → List Opening → List (Option Command) → Option Refusal
 lines-fault n [] [] = none
 lines-fault n (o ∷ os) [] = refuse 8 (o .line)
-lines-fault n os (c ∷ p) = or-else (line-fault n os c) (lines-fault (suc n) (open-next n os c) p)
+lines-fault n os (c ∷ p) = or-else (line-fault n os c) (lines-fault (suc n) (open-past n os c) p)
 
 -- Rules 3 to 8, of the lines of a text or the commands of a list
 unfoldable pub program-fault : List (Option Command) → Option Refusal
@@ -116,10 +111,12 @@ read-list l = answer (program-fault (listed l)) (present (listed l))
 abbrev pub is-value : ℕ → ℕ → ℕ → ℕ → Bool
 is-value capacity K i v = leb v capacity && (ltb i K || eqb v 0)
 
--- Passes left of the loop inside d loops: 1 to capacity "for a loop whose body or `endloop` holds its line", of which there are D, 0 "for any other"
+-- Passes left of the loop inside d loops: 1 to capacity "for a loop whose body or `endloop` holds its line", of which there are D, 0 "for
+-- any other"
 abbrev pub is-passes : ℕ → ℕ → ℕ → ℕ → Bool
 is-passes capacity D d k = cond (ltb d D) (is-limited capacity k) (eqb k 0)
 
+-- "a capacity outside 1 to 1,024, a line outside 1 to the line after the last", a value or a passes-left that is not as above
 unfoldable pub is-source : List Command → SourceState → Bool
 is-source p s =
     is-limited Limits.most-capacity (s .capacity)
@@ -127,6 +124,7 @@ is-source p s =
     && all-below Limits.state-values (λ i. is-value (s .capacity) (variables p) i (s .state .values i))
     && all-below Limits.state-passes (λ d. is-passes (s .capacity) (S.depth p (s .state .line)) d (s .state .passes d))
 
+-- "A source state has …": what `is-source` tests (place 0)
 unfoldable pub rule-9 : List Command → SourceState → Option Refusal
 rule-9 p s = unless (is-source p s) 9 0
 
@@ -136,6 +134,7 @@ rule-10 m = unless (is-memory m) 10 0
 
 -- Words: rules 11 to 15. Places are byte offsets from 0
 
+-- "The word is empty or above 600,000 bytes (place 0)"
 unfoldable pub rule-11 : Bytes → Option Refusal
 rule-11 w = unless (is-limited Limits.most-symbols (length w)) 11 0
 
@@ -144,34 +143,48 @@ unfoldable pub first-failing : (ℕ → Bool) → ℕ → List ℕ → Option �
 first-failing f n [] = none
 first-failing f n (b ∷ l) = cond (f b) (first-failing f (suc n) l) (some n)
 
+-- "A byte is neither 1 nor # (place the first such)"
 unfoldable pub rule-12 : Bytes → Option Refusal
 rule-12 w = and-then (first-failing is-symbol 0 w) (refuse 12)
 
 abbrev pub entry-size : Entry → ℕ
 entry-size e = e .operand + e .kind
 
--- "The word starts with #, has a sixth # running, or ends in 1 (place 0, that #, or the length; the least)": in the entry that starts at n
+abbrev pub total : List Entry → ℕ
+total [] = 0
+total (e ∷ t) = entry-size e + total t
+
+-- Where the next entry stands, after one that stands at n: in a word by bytes, in a table by entries
+abbrev pub next-byte : ℕ → Entry → ℕ
+next-byte n e = n + entry-size e
+
+abbrev pub next-entry : ℕ → Entry → ℕ
+next-entry n e = suc n
+
+-- The first answer, of entries that follow one another from n
+unfoldable pub first-along : (ℕ → Entry → ℕ) → (ℕ → Entry → Option ℕ) → ℕ → List Entry → Option ℕ
+first-along next f n [] = none
+first-along next f n (e ∷ t) = or-else (f n e) (first-along next f (next n e) t)
+
+-- "The word starts with #, has a sixth # running, or ends in 1 (place 0, that #, or the length; the least)": in the entry that starts at n,
+-- 0 only in the first and the length only in the last, so the first faulty entry has the least place
 abbrev pub entry-fault : ℕ → Entry → Option ℕ
 entry-fault n e =
     or-else (given (eqb (e .operand) 0) n)
     (or-else (given (ltb 5 (e .kind)) (n + e .operand + 5))
     (given (eqb (e .kind) 0) (n + e .operand)))
 
--- The first answer, of entries that follow one another from n
-unfoldable pub first-along : (ℕ → Entry → Option ℕ) → ℕ → List Entry → Option ℕ
-first-along f n [] = none
-first-along f n (e ∷ t) = or-else (f n e) (first-along f (n + entry-size e) t)
+-- In a table, "a kind outside 1 to 5 or an operand of 0": at the entry itself
+abbrev pub bad-entry : ℕ → Entry → Option ℕ
+bad-entry n e = given (not (is-limited 5 (e .kind)) || eqb (e .operand) 0) n
 
-unfoldable pub rule-13 : List Entry → Option Refusal
-rule-13 t = and-then (first-along entry-fault 0 t) (refuse 13)
+-- By where entries stand, and by what is a fault there
+unfoldable pub rule-13 : (ℕ → Entry → ℕ) → (ℕ → Entry → Option ℕ) → List Entry → Option Refusal
+rule-13 next fault t = and-then (first-along next fault 0 t) (refuse 13)
 
-abbrev pub total : List Entry → ℕ
-total [] = 0
-total (e ∷ t) = entry-size e + total t
-
--- "There are more than 8,192 instructions (place the next one's start)"
-unfoldable pub rule-14 : List Entry → Option Refusal
-rule-14 t = unless (leb (length t) Limits.most-instructions) 14 (total (take Limits.most-instructions t))
+-- "There are more than 8,192 instructions (place the next one's start)", told that place
+unfoldable pub rule-14 : ℕ → List Entry → Option Refusal
+rule-14 place t = unless (leb (length t) Limits.most-instructions) 14 place
 
 -- "An add or cases names a register the machine lacks (place the start of the first such)"; kinds 1, 2 and 5 name a register
 abbrev pub names-register : ℕ → Bool
@@ -180,39 +193,26 @@ names-register k = ltb k 3 || eqb k 5
 abbrev pub lacks : ℕ → ℕ → Entry → Option ℕ
 lacks registers n e = given (names-register (e .kind) && ltb registers (e .operand)) n
 
-unfoldable pub rule-15 : ℕ → List Entry → Option Refusal
-rule-15 registers t = and-then (first-along (lacks registers) 0 t) (refuse 15)
+unfoldable pub rule-15 : (ℕ → Entry → ℕ) → ℕ → List Entry → Option Refusal
+rule-15 next registers t = and-then (first-along next (lacks registers) 0 t) (refuse 15)
 
 abbrev pub word-entries : Bytes → List Entry
 word-entries w = entries (map symbol-of w)
 
+-- Rules 13 and 14, of a word's entries
+abbrev pub entries-fault : List Entry → Option Refusal
+entries-fault t = or-else (rule-13 next-byte entry-fault t) (rule-14 (total (take Limits.most-instructions t)) t)
+
 unfoldable pub word-fault : Bytes → Option Refusal
-word-fault w = or-else (rule-11 w) (or-else (rule-12 w) (or-else (rule-13 (word-entries w)) (rule-14 (word-entries w))))
+word-fault w = or-else (rule-11 w) (or-else (rule-12 w) (entries-fault (word-entries w)))
 
--- Tables: "places are entries from 0: 11 is no entries or kinds and operands summing above 600,000, 13 a kind outside 1 to 5 or an operand of 0"
-
+-- "For a table in place of a word, places are entries from 0: 11 is no entries or kinds and operands summing above 600,000, 13 a kind
+-- outside 1 to 5 or an operand of 0, 14 and 15 as for words"
 unfoldable pub table-rule-11 : List Entry → Option Refusal
 table-rule-11 t = unless (leb 1 (length t) && leb (total t) Limits.most-symbols) 11 0
 
--- The index of the first entry from n on for which there is an answer
-unfoldable pub first-entry : (ℕ → Entry → Option ℕ) → ℕ → List Entry → Option ℕ
-first-entry f n [] = none
-first-entry f n (e ∷ t) = or-else (f n e) (first-entry f (suc n) t)
-
-abbrev pub bad-entry : ℕ → Entry → Option ℕ
-bad-entry n e = given (not (is-limited 5 (e .kind)) || eqb (e .operand) 0) n
-
-unfoldable pub table-rule-13 : List Entry → Option Refusal
-table-rule-13 t = and-then (first-entry bad-entry 0 t) (refuse 13)
-
-unfoldable pub table-rule-14 : List Entry → Option Refusal
-table-rule-14 t = unless (leb (length t) Limits.most-instructions) 14 Limits.most-instructions
-
-unfoldable pub table-rule-15 : ℕ → List Entry → Option Refusal
-table-rule-15 registers t = and-then (first-entry (lacks registers) 0 t) (refuse 15)
-
 unfoldable pub table-fault : List Entry → Option Refusal
-table-fault t = or-else (table-rule-11 t) (or-else (table-rule-13 t) (table-rule-14 t))
+table-fault t = or-else (table-rule-11 t) (or-else (rule-13 next-entry bad-entry t) (rule-14 Limits.most-instructions t))
 
 -- A word read, rules 11 to 14, and a table handed in, rules 11, 13 and 14; on a machine, then 15
 unfoldable pub read-word : Bytes → Answer (List Entry)
@@ -222,10 +222,10 @@ unfoldable pub read-table : List Entry → Answer (List Entry)
 read-table t = answer (table-fault t) t
 
 unfoldable pub read-word-for : ℕ → Bytes → Answer (List Entry)
-read-word-for registers w = answer (or-else (word-fault w) (rule-15 registers (word-entries w))) (word-entries w)
+read-word-for registers w = answer (or-else (word-fault w) (rule-15 next-byte registers (word-entries w))) (word-entries w)
 
 unfoldable pub read-table-for : ℕ → List Entry → Answer (List Entry)
-read-table-for registers t = answer (or-else (table-fault t) (table-rule-15 registers t)) t
+read-table-for registers t = answer (or-else (table-fault t) (rule-15 next-entry registers t)) t
 
 -- The instructions of an accepted table
 abbrev pub instructions : List Entry → List Instruction
@@ -237,12 +237,12 @@ instructions t = present (map instruction-of t)
 unfoldable pub sheet-size-fault : Bytes → Option Refusal
 sheet-size-fault t = unless (leb (length t) Limits.most-sheet-bytes && ends-in-LF t) 16 0
 
--- The names line: 16 for its shape; "A name isn't below K or comes twice", 17
+-- The names line: 16, "a line has the wrong shape"; 17, "A name isn't below K or comes twice"
 abbrev pub names-fault : ℕ → Option (List ℕ) → Option Refusal
 names-fault K none = refuse 16 1
 names-fault K (some ns) = unless (leb (above ns) K && distinct ns) 17 1
 
--- Line n of values, for so many names: 16 for its shape or count; "A value is above the capacity", 18
+-- Line n of values, for so many names: 16, "a line has the wrong shape or count"; 18, "A value is above the capacity"
 abbrev pub values-fault : ℕ → ℕ → ℕ → Option (List ℕ) → Option Refusal
 values-fault capacity count n none = refuse 16 n
 values-fault capacity count n (some vs) = or-else (unless (eqb (length vs) count) 16 n) (unless (all (λ v. leb v capacity) vs) 18 n)
@@ -254,7 +254,7 @@ rows-fault capacity count n (l ∷ ls) = or-else (values-fault capacity count n 
 -- The names of a sheet, in order
 abbrev pub names-of : List Bytes → List ℕ
 names-of [] = []
-names-of (l ∷ ls) = elim (names l) [ none ↦ [] | some ns ↦ ns ]
+names-of (l ∷ ls) = default [] (names l)
 
 abbrev pub sheet-lines-fault : ℕ → ℕ → List Bytes → Option Refusal
 sheet-lines-fault capacity K [] = none
@@ -278,3 +278,40 @@ lend lent r = after r λ l. answer (rule-19 lent l) l
 unfoldable pub lent-after : {A : Type 0} → List A → Answer (List A) → List A
 lent-after lent (done l) = l ++ drop (length l) lent
 lent-after lent (refused r) = lent
+
+-- Calls: the order in which each checks what it is given, and then what it does. "Lower numbers are checked first"; "A call skips the
+-- numbers of things it isn't given". `read-text`, `read-list`, `read-word`, `read-table` and `sheet-fault` above are calls too
+
+-- A text read into a lent list: 1 to 8, 19
+unfoldable pub read-program-into : List ℕ → Bytes → Answer (List Command)
+read-program-into lent t = after (read-text t) λ p. answer (rule-19 lent (list-of p)) p
+
+-- A list written into a lent text: 3 to 8, 19
+unfoldable pub write-program-into : Bytes → List ℕ → Answer Bytes
+write-program-into lent l = lend lent (mapped text-of (read-list l))
+
+-- A program, handed in as text (1 to 8) or list (3 to 8), translated into a lent output: its rules, 19
+unfoldable pub translate-into : Bytes → Answer (List Command) → Answer (List Command)
+translate-into lent program = after program λ p. answer (rule-19 lent (word-text p)) p
+
+-- A program, handed in so, run from a state: its rules, 9, the run
+unfoldable pub run-from : SourceState → ℕ → List Command → Answer (Outcome S.State)
+run-from s budget p = answer (rule-9 p s) (run-source p s budget)
+
+abbrev pub run-program : Answer (List Command) → SourceState → ℕ → Answer (Outcome S.State)
+run-program program s budget = after program (run-from s budget)
+
+-- A word read into lent lists of kinds and operands: 11 to 14, 19 for either list
+unfoldable pub read-word-into : List ℕ → List ℕ → Bytes → Answer (List Entry)
+read-word-into kinds operands w = after (read-word w) λ t. answer (or-else (rule-19 kinds t) (rule-19 operands t)) t
+
+-- A table written into a lent word: 11, 13, 14, 19
+unfoldable pub write-word-into : Bytes → List Entry → Answer Bytes
+write-word-into lent t = lend lent (mapped (λ u. bytes-of (spell-entries u)) (read-table t))
+
+-- A word, handed in as bytes (11 to 15) or as a table (11, 13, 14, 15), run on a machine: 10, its rules, the run
+abbrev pub for-machine : Memory → Answer (List Entry) → Answer (List Entry)
+for-machine m word = after (answer (rule-10 m) m) λ n. word
+
+abbrev pub run-on : Memory → Position → ℕ → Answer (List Entry) → Answer (Outcome W.State)
+run-on m p budget word = mapped (λ t. run-word (instructions t) m p budget) (for-machine m word)

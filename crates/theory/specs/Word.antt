@@ -6,7 +6,7 @@ use Prim.Native.Nat.{ℕ, suc, _+_}
 use lib.IntN.{ℤ, pos, negsuc, _+ℤ_, _-ℤ_}
 use lib.ListN.{length, replicate}
 use lib.Dec.{eqb, leb}
-use Rattle.theory.specs.Basics.{at, put, given}
+use Rattle.theory.specs.Basics.{at, put, given, and-then}
 use Rattle.theory.specs.Text.{Bytes}
 use Rattle.theory.specs.Runs.{Room, Machine}
 use Rattle.theory.specs.declared.End.{End}
@@ -81,14 +81,19 @@ spell w = spell-entries (table-of w)
 abbrev pub bytes-of : List Symbol → Bytes
 bytes-of = map byte-of
 
--- Reading: a word's entries, each the 1s that stand together and the # behind them
+-- Reading: a word's entries, each the 1s that stand together and the # behind them, from the last symbol to the first. So `1##1` has two:
+-- operand 1 and kind 2, and operand 1 and kind 0, since no # follows. What is no instruction has an operand of 0, which only the first
+-- entry can have, a kind of 0, only the last, or a kind above 5
 abbrev pub one-before : List Entry → List Entry
 one-before [] = record { kind = 0; operand = 1 } ∷ []
 one-before (e ∷ t) = record { kind = e .kind; operand = suc (e .operand) } ∷ t
 
 abbrev pub hash-before : List Entry → List Entry
 hash-before [] = record { kind = 1; operand = 0 } ∷ []
-hash-before (e ∷ t) = cond (eqb (e .operand) 0) (record { kind = suc (e .kind); operand = 0 } ∷ t) (record { kind = 1; operand = 0 } ∷ e ∷ t)
+hash-before (e ∷ t) =
+    cond (eqb (e .operand) 0)
+    (record { kind = suc (e .kind); operand = 0 } ∷ t)
+    (record { kind = 1; operand = 0 } ∷ e ∷ t)
 
 unfoldable pub entries : List Symbol → List Entry
 entries [] = []
@@ -117,21 +122,20 @@ branch n s (hash ∷ xs) = record { place = s .place +ℤ pos 3; registers = put
 abbrev pub appended : ℕ → State → Symbol → State
 appended n s x = record { place = s .place +ℤ pos 1; registers = put (s .registers) n (s .registers n ++ (x ∷ [])) }
 
+-- "1: append 1 to register n. 2: append # to register n. 3: go forward n places. 4: go backward n places. 5: cases on register n"; none
+-- where there is no room for what is appended
 abbrev pub perform : Room → State → Instruction → Option State
 perform room s (append x n) = given (room n (suc (length (s .registers n)))) (appended n s x)
 perform room s (forward n) = some (record { place = s .place +ℤ pos n; registers = s .registers })
 perform room s (backward n) = some (record { place = s .place -ℤ pos n; registers = s .registers })
 perform room s (cases n) = some (branch n s (s .registers n))
 
-abbrev pub perform-fetched : Room → State → Option Instruction → Option State
-perform-fetched room s none = none
-perform-fetched room s (some i) = perform room s i
-
 -- One step; none where the state is full, or at no instruction
 unfoldable pub step : Room → List Instruction → State → Option State
-step room w s = perform-fetched room s (fetch w (s .place))
+step room w s = and-then (fetch w (s .place)) (perform room s)
 
--- "With L instructions, place L+1 is halted; any other place outside 1 to L+1 is strayed and is reported as a signed number": by the state's place
+-- "With L instructions, place L+1 is halted; any other place outside 1 to L+1 is strayed and is reported as a signed number": by the
+-- state's place
 abbrev pub ended-at : ℕ → ℤ → Option End
 ended-at L (pos n) = cond (eqb n (suc L)) (some Halted) (cond (leb 1 n && leb n L) none (some Strayed))
 ended-at L (negsuc n) = some Strayed

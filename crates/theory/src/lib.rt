@@ -6,8 +6,8 @@ pub struct Refusal {
     pub place: usize,
 }
 
-// How a run ends. Document 01's terms: strayed, a place outside the word other than the one after its last instruction; spent, no budget or no
-// count left; full, the next step would put more than the capacity into a register or a variable.
+// How a run ends. Document 01's terms: strayed, a place outside the word other than the one after its last instruction; spent, no budget
+// or no count left; full, the next step would put more than the capacity into a register or a variable.
 pub enum End {
     Halted,
     Strayed,

@@ -6,10 +6,11 @@ use native.Mathlib.Omega.{arith}
 use lib.ListN.{length, take, drop}
 use lib.Seq.{take-at}
 use borrow.Author.Tests.{le-leb, lt-leb}
+use Rattle.theory.specs.TurnedDown.{translate-into}
 use Rattle.theory.specs.Text.{Bytes}
 use Rattle.theory.specs.ProgramText.{Command, list-of}
 use Rattle.theory.specs.Translation.{word-text}
-use Rattle.theory.specs.TurnedDown.{Answer, done, refused, mapped, rule-19, read-text, read-list, lent-after}
+use Rattle.theory.specs.TurnedDown.{Answer, done, refused, mapped, rule-19, read-text, read-list, lent-after, read-program-into}
 use Rattle.theory.specs.declared.Refusal.{Refusal}
 use Rattle.theory.specs.Claims.{Accepted}
 use Rattle.theory.proofs.Nesting.{reads-accepted, short, list-read}
@@ -19,11 +20,11 @@ use Rattle.program.specs.declared.Program.{Program}
 use Rattle.program.specs.declared.Checked.{Checked}
 use Rattle.program.specs.declared.Checked.the-variants as C
 use Rattle.program.proofs.Replies.{checked-refused, checked-accepted}
-use Rattle.translation.specs.Answers.{size-of, translate-into, Answered}
+use Rattle.translation.specs.Answers.{size-of, Answered}
 use Rattle.translation.specs.Sites.{program-of, Known}
 use Rattle.translation.specs.declared.Size.{Size}
 use Rattle.translation.specs.declared.Translated.the-variants as T
-use Rattle.translation.proofs.Sites.{list-length}
+use Rattle.program.proofs.Lists.{list-length}
 
 -- It was refused; it has no room; it is written
 pub answered-refused : (A : Answer (List Command)) (r : Refusal) (out : List ℕ) → A ≡ refused r → Answered A out out (T.Refused r)
@@ -61,16 +62,16 @@ module _ (t : Bytes) (lent : List ℕ) (room : 1536 ≤ length lent) where
   fits p e = omega (arith, list-length p, short p (reads-accepted .0 t p e))
 
   -- A list of 1,536 numbers has room for any program
-  read-as-text : P.read-into lent t ≡ read-text t
-  unfolding P.read-into rule-19
+  read-as-text : read-program-into lent t ≡ read-text t
+  unfolding read-program-into rule-19
   read-as-text = go (read-text t) refl
     where
-      go : (A : Answer (List Command)) → read-text t ≡ A → P.read-into lent t ≡ read-text t
+      go : (A : Answer (List Command)) → read-text t ≡ A → read-program-into lent t ≡ read-text t
       go (refused r) e = rw e
       go (done p) e = rw (e, le-leb (length (list-of p)) (length lent) (fits p e))
 
-  pub unread : {c : Checked} {r : Refusal} → c ≡ P.checked (P.read-into lent t) → c ≡ C.Refused r → read-text t ≡ refused r
-  unread e f = sym read-as-text ∙ checked-refused (P.read-into lent t) e f
+  pub unread : {c : Checked} {r : Refusal} → c ≡ P.checked (read-program-into lent t) → c ≡ C.Refused r → read-text t ≡ refused r
+  unread e f = sym read-as-text ∙ checked-refused (read-program-into lent t) e f
 
   -- What was read, and the part of the list that holds it
   pub record Taken (q : Program) (list : List ℕ) : Type 0 where
@@ -81,7 +82,7 @@ module _ (t : Bytes) (lent : List ℕ) (room : 1536 ≤ length lent) where
     pub few : 3 * q .lines ≤ 1536
 
   taken-of : (p : List Command) (q : Program) (list : List ℕ) → read-text t ≡ done p → q ≡ P.program-of p
-      → list ≡ lent-after lent (mapped list-of (P.read-into lent t)) → Taken q list
+      → list ≡ lent-after lent (mapped list-of (read-program-into lent t)) → Taken q list
   unfolding lent-after
   taken-of p q list e f h =
       let ok : Accepted p = reads-accepted .0 t p e in
@@ -97,8 +98,8 @@ module _ (t : Bytes) (lent : List ℕ) (room : 1536 ≤ length lent) where
         few = omega (arith, list-length p, short p ok);
       }
 
-  pub taken : {c : Checked} (q : Program) (list : List ℕ) → c ≡ P.checked (P.read-into lent t) → c ≡ C.Accepted q
-      → list ≡ lent-after lent (mapped list-of (P.read-into lent t)) → Taken q list
+  pub taken : {c : Checked} (q : Program) (list : List ℕ) → c ≡ P.checked (read-program-into lent t) → c ≡ C.Accepted q
+      → list ≡ lent-after lent (mapped list-of (read-program-into lent t)) → Taken q list
   taken q list e f h =
-      let k : _ = checked-accepted (P.read-into lent t) e f in
+      let k : _ = checked-accepted (read-program-into lent t) e f in
       taken-of (k .0) q list (sym read-as-text ∙ k .1) (k .2) h

@@ -10,9 +10,9 @@ use Rattle.theory.specs.ProgramText.{lines}
 use Rattle.theory.specs.Source.{deeper}
 use Rattle.theory.specs.Word.{Instruction}
 use Rattle.theory.specs.Translation.{plain-code, code}
-use Rattle.theory.proofs.Sizes.{weight, weight-append}
+use Rattle.theory.proofs.Sizes.{weight-append}
 use Rattle.translation.specs.Pieces.{plain-of, kind-of, Small}
-use Rattle.translation.specs.Sites.{block-at, goes-on, first, Site, Counted, Counts, join, before, after, Roomy, Around}
+use Rattle.translation.specs.Sites.{block-at, goes-on, first, Site, Counted, Counts, join, before, after, Roomy, Around, symbols-of}
 use Rattle.translation.specs.declared.lines.Line.{Line}
 use Rattle.translation.specs.declared.sizes.Extent.{Extent}
 use Rattle.translation.proofs.Sites.{Bounds, bounds}
@@ -61,7 +61,7 @@ module _ (list : List ℕ) (count K d at : ℕ) where
       let i : _ = here list count K d (e .next) (c .passed .site) g in
       let r : List Instruction = code K d (block-at list (e .next)) in
       let lengths : _ = ap length (c .passed .code) ∙ length-append (c .code) r in
-      let weights : _ = ap weight (c .passed .code) ∙ weight-append (c .code) r in
+      let weights : _ = ap symbols-of (c .passed .code) ∙ weight-append (c .code) r in
       record {
         instructions = omega (arith, b .instructions, i .instructions, c .counted .instructions, h .instructions, lengths);
         symbols = omega (arith, b .symbols, i .symbols, c .counted .symbols, h .symbols, weights);
@@ -74,7 +74,7 @@ module _ (list : List ℕ) (count K d at : ℕ) where
       let a : _ = passed-all list count K d at (e .next) (c .code) (c .passed) g in
       record {
         instructions = c .counted .instructions ∙ ap length (a .code);
-        symbols = c .counted .symbols ∙ ap weight (a .code);
+        symbols = c .counted .symbols ∙ ap symbols-of (a .code);
         ended = a .line;
       }
 
@@ -91,7 +91,7 @@ module _ (list : List ℕ) (count K d at : ℕ) (s : Site list count K d at) (g 
   plain-counts p e c =
       record {
         instructions = c .instructions ∙ ap length (sym (p .code));
-        symbols = c .symbols ∙ ap weight (sym (p .code));
+        symbols = c .symbols ∙ ap symbols-of (sym (p .code));
         ended = c .ended ∙ ap (λ n. at + n) (sym (p .line));
       }
 
@@ -104,11 +104,12 @@ module _ (list : List ℕ) (count K d at : ℕ) (s : Site list count K d at) (g 
     pub pair-code : code K d (first (block-at list at)) ≡ before K d l body ++ (inner ++ after K d l body)
     pair-code = rw (c .instructions, m) (p .code)
 
-    pub pair-weight : weight (code K d (first (block-at list at))) ≡ weight (before K d l body) + body .symbols + weight (after K d l body)
+    pub pair-weight : symbols-of (code K d (first (block-at list at)))
+        ≡ symbols-of (before K d l body) + body .symbols + symbols-of (after K d l body)
     pair-weight =
         let b : List Instruction = before K d l body in
         let a : List Instruction = after K d l body in
-        omega (arith, ap weight pair-code, weight-append b (inner ++ a), weight-append inner a, c .symbols)
+        omega (arith, ap symbols-of pair-code, weight-append b (inner ++ a), weight-append inner a, c .symbols)
 
     pub pair-asks : Small l K × (d ≤ Limits.most-open) × Roomy K d l body
     pair-asks =

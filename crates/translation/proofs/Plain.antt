@@ -3,8 +3,9 @@ use mathlib.Core.Path.{_≡_}
 use mathlib.Core.List.{[], _∷_}
 use Prim.Native.Nat.{ℕ}
 use borrow.Author.Tests.{eq-eqb, ne-eqb}
+use Rattle.theory.specs.Runs.{register}
 use Rattle.theory.specs.Word.{append, one}
-use Rattle.theory.specs.Translation.{register, scratch, clearing, touching, copying, plain-code}
+use Rattle.theory.specs.Translation.{scratch, clearing, touching, copying, plain-code}
 use Rattle.translation.specs.Pieces.{plain-of}
 use Rattle.translation.specs.declared.lines.Line.{Line}
 

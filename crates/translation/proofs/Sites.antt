@@ -11,16 +11,17 @@ use lib.ListN.{length, getD, drop, length-append, length-drop, drop-of-length-le
 use lib.Seq.{getD-drop, drop-drop, drop-nil, drop-append-seam}
 use Rattle.theory.specs.Limits
 use Rattle.theory.specs.ProgramText.{Plain, clear, increment, copy, Kind, loop, while, Command, plain, opens, closes, numbers, list-of}
-use Rattle.theory.specs.ProgramText.{variables, Block, end, line, pair, lines, Blocks, opened-by, blocks, block-of}
+use Rattle.theory.specs.ProgramText.{variables, Block, empty, single, pair, lines, Blocks, opened-by, blocks, block-of}
 use Rattle.theory.specs.Source.{deeper}
 use Rattle.theory.specs.Translation.{code}
 use Rattle.theory.specs.Claims.{Accepted}
 use Rattle.theory.proofs.Nesting.{nest, reads-accepted, short, few-variables, well-nested, shallow}
-use Rattle.theory.proofs.Sizes.{weight, code-length, code-weight}
+use Rattle.theory.proofs.Sizes.{code-length, code-weight}
 use Rattle.theory.proofs.Lists.{lists-round-trip}
+use Rattle.program.proofs.Lists.{list-length}
 use Rattle.translation.specs.Pieces.{numbers-at, Says}
 use Rattle.translation.specs.declared.lines.Line.{Line}
-use Rattle.translation.specs.Sites.{program-of, block-at, goes-on, first, rest, Accepts, Known, Site}
+use Rattle.translation.specs.Sites.{program-of, block-at, goes-on, first, rest, pairs-deep, symbols-of, Accepts, Known, Site}
 
 -- An accepted list has three numbers a line
 
@@ -38,11 +39,6 @@ three (opens loop i) = record { kind = 4; index = i; source = 0; are = refl }
 three (closes loop i) = record { kind = 5; index = i; source = 0; are = refl }
 three (opens while i) = record { kind = 6; index = i; source = 0; are = refl }
 three (closes while i) = record { kind = 7; index = i; source = 0; are = refl }
-
-pub list-length : (p : List Command) → length (list-of p) ≡ 3 * length p
-unfolding list-of
-list-length [] = refl
-list-length (c ∷ p) = rw (three c .are) (omega (arith, list-length p))
 
 list-drop : (n : ℕ) (p : List Command) → drop (3 * n) (list-of p) ≡ list-of (drop n p)
 unfolding list-of
@@ -76,11 +72,11 @@ module _ (list : List ℕ) (count : ℕ) (a : Accepts list count) where
 
 -- A block is the one that its lines begin with, where those that follow end or close a pair
 
-blocks-begin : (b : Block) (q : List Command) → blocks q .first ≡ end
+blocks-begin : (b : Block) (q : List Command) → blocks q .first ≡ empty
     → blocks (lines b ++ q) ≡ record { first = b; later = blocks q .later }
 unfolding blocks
-blocks-begin end q e = ap {B = Blocks} (λ x. record { first = x; later = blocks q .later }) e
-blocks-begin (line c b) q e = ap {B = Blocks} (λ r. record { first = line c (r .first); later = r .later }) (blocks-begin b q e)
+blocks-begin empty q e = ap {B = Blocks} (λ x. record { first = x; later = blocks q .later }) e
+blocks-begin (single c b) q e = ap {B = Blocks} (λ r. record { first = single c (r .first); later = r .later }) (blocks-begin b q e)
 blocks-begin (pair k i body b) q e =
     let q′ : List Command = closes k i ∷ (lines b ++ q) in
     ap (λ r. opened-by k i (r .first) (r .later))
@@ -88,7 +84,7 @@ blocks-begin (pair k i body b) q e =
     ∙ (blocks-begin body q′ refl
     ∙ ap {B = Blocks} (λ r. record { first = body; later = r .first ∷ r .later }) (blocks-begin b q e)))
 
-block-begins : (list : List ℕ) (at : ℕ) (b : Block) (q : List Command) → blocks q .first ≡ end → drop at (program-of list) ≡ lines b ++ q
+block-begins : (list : List ℕ) (at : ℕ) (b : Block) (q : List Command) → blocks q .first ≡ empty → drop at (program-of list) ≡ lines b ++ q
     → block-at list at ≡ b
 unfolding block-at
 block-begins list at b q e h = ap (λ l. blocks l .first) h ∙ ap (λ r. r .first) (blocks-begin b q e)
@@ -162,19 +158,25 @@ module _ (list : List ℕ) (count at : ℕ) (a : Accepts list count) where
 -- The rest of a block, and a pair's body
 
 lines-first : (b : Block) → lines b ≡ lines (first b) ++ lines (rest b)
-lines-first end = refl
-lines-first (line c b) = refl
+lines-first empty = refl
+lines-first (single c b) = refl
 lines-first (pair k i body b) = rw append-assoc
 
-nest-rest : (b : Block) → nest (rest b) ≤ nest b
-nest-rest end = omega arith
-nest-rest (line c b) = omega arith
-nest-rest (pair k i body b) = omega arith
+-- The depth is the one that `theory` counts by
+deep-nest : (b : Block) → pairs-deep b ≡ nest b
+deep-nest empty = refl
+deep-nest (single c b) = deep-nest b
+deep-nest (pair k i body b) = omega (arith, deep-nest body, deep-nest b)
 
-nest-body : (k : Kind) (d i : ℕ) (body b : Block) → d + nest (pair k i body b) ≤ Limits.most-open
-    → deeper k d + nest body ≤ Limits.most-open
-nest-body loop d i body b h = omega arith
-nest-body while d i body b h = omega arith
+deep-rest : (b : Block) → pairs-deep (rest b) ≤ pairs-deep b
+deep-rest empty = omega arith
+deep-rest (single c b) = omega arith
+deep-rest (pair k i body b) = omega arith
+
+deep-body : (k : Kind) (d i : ℕ) (body b : Block) → d + pairs-deep (pair k i body b) ≤ Limits.most-open
+    → deeper k d + pairs-deep body ≤ Limits.most-open
+deep-body loop d i body b h = omega arith
+deep-body while d i body b h = omega arith
 
 -- A site, and the block that stands there
 pub record Stands (list : List ℕ) (count K d at : ℕ) (b : Block) : Type 0 where
@@ -183,7 +185,7 @@ pub record Stands (list : List ℕ) (count K d at : ℕ) (b : Block) : Type 0 wh
 
 module _ (list : List ℕ) (count K : ℕ) where
   stands : (d at : ℕ) (b : Block) (later : List Command) → Known list count K → at ≤ count
-      → drop at (program-of list) ≡ lines b ++ later → blocks later .first ≡ end → d + nest b ≤ Limits.most-open
+      → drop at (program-of list) ≡ lines b ++ later → blocks later .first ≡ empty → d + pairs-deep b ≤ Limits.most-open
       → Stands list count K d at b
   stands d at b later k w h s r =
       let e : block-at list at ≡ b = block-begins list at b later s h in
@@ -209,7 +211,7 @@ module _ (list : List ℕ) (count K : ℕ) where
       let p : List Command = program-of list in
       let ok : Accepted p = accepted list count (k .accepts) in
       let e : p ≡ lines (block-of p) ++ [] = sym (append-nil (lines (block-of p)) ∙ well-nested p ok) in
-      stands 0 0 (block-of p) [] k (omega arith) e refl (omega (arith, shallow p ok))
+      stands 0 0 (block-of p) [] k (omega arith) e refl (omega (arith, shallow p ok, deep-nest (block-of p)))
 
   pub body-site : (d at : ℕ) → Site list count K d at → (k : Kind) (i : ℕ) (body b : Block) → block-at list at ≡ pair k i body b
       → Stands list count K (deeper k d) (at + 1) body
@@ -219,9 +221,9 @@ module _ (list : List ℕ) (count K : ℕ) where
       let here : drop at (program-of list) ≡ opens k i ∷ (lines body ++ q) =
       s .split ∙ (ap (λ x. lines x ++ s .later) e ∙ ap {B = List Command} (λ l. opens k i ∷ l) (append-assoc (lines body) _ _)) in
       let below : at + 1 ≤ count = omega (arith, ends d at s, ap (λ x. length (lines x)) e) in
-      let room : d + nest (pair k i body b) ≤ Limits.most-open = rw e at (s .room) in
+      let room : d + pairs-deep (pair k i body b) ≤ Limits.most-open = rw e at (s .room) in
       stands (deeper k d) (at + 1) body q (s .known) below (sym (drop-drop 1 at (program-of list)) ∙ ap (drop 1) here) refl
-      (nest-body k d i body b room)
+      (deep-body k d i body b room)
 
   pub rest-site : (d at n : ℕ) → Site list count K d at → n ≡ at + length (lines (first (block-at list at)))
       → Stands list count K d n (rest (block-at list at))
@@ -234,7 +236,7 @@ module _ (list : List ℕ) (count K : ℕ) where
       sym (drop-drop (length f) at (program-of list)) ∙ (ap (drop (length f)) here ∙ drop-append-seam f _) in
       let l : length (lines b) ≡ length f + length (lines (rest b)) = ap length (lines-first b) ∙ length-append f _ in
       rw e (stands d (at + length f) (rest b) (s .later) (s .known) (omega (arith, ends d at s)) there (s .stops)
-      (omega (arith, s .room, nest-rest b)))
+      (omega (arith, s .room, deep-rest b)))
 
 -- What is counted at a site is small
 
@@ -258,7 +260,7 @@ pub record Bounds (list : List ℕ) (count K d at : ℕ) : Type 0 where
   pub low : Few (variables (lines (block-at list at)))
   pub ends : at + length (lines (block-at list at)) ≤ count
   pub instructions : length (code K d (block-at list at)) ≤ Limits.most-instructions
-  pub symbols : weight (code K d (block-at list at)) ≤ Limits.most-symbols
+  pub symbols : symbols-of (code K d (block-at list at)) ≤ Limits.most-symbols
 
 pub bounds : (list : List ℕ) (count K d at : ℕ) → Site list count K d at → Bounds list count K d at
 bounds list count K d at s =
@@ -270,10 +272,10 @@ bounds list count K d at s =
     let named : Few (variables (lines b)) =
     omega (arith, few-variables p ok, variables-drop at p, ap variables (s .split), variables-front (lines b) (s .later)) in
     let short-enough : length (lines b) ≤ 512 = omega (arith, ends list count K d at s) in
-    let light : weight (code K d b) ≤ length (lines b) * (251 + 24 * nest b) =
-    code-weight K d (nest b) b high named (omega (arith, s .room)) (omega arith) in
-    let each : 251 + 24 * nest b ≤ 635 = omega (arith, s .room) in
-    let product : length (lines b) * (251 + 24 * nest b) ≤ 512 * 635 = mul-le-mul short-enough each in
+    let light : symbols-of (code K d b) ≤ length (lines b) * (251 + 24 * pairs-deep b) =
+    code-weight K d (pairs-deep b) b high named (omega (arith, s .room)) (omega (arith, deep-nest b)) in
+    let each : 251 + 24 * pairs-deep b ≤ 635 = omega (arith, s .room) in
+    let product : length (lines b) * (251 + 24 * pairs-deep b) ≤ 512 * 635 = mul-le-mul short-enough each in
     record {
       few-lines = few;
       few-variables = high;
@@ -289,7 +291,7 @@ bounds list count K d at s =
 pub record Plainly (list : List ℕ) (at : ℕ) : Type 0 where
   pub command : Plain
   pub after : Block
-  pub block : block-at list at ≡ line command after
+  pub block : block-at list at ≡ single command after
   pub says : Says (numbers-at list at) (plain command)
 
 pub record Paired (list : List ℕ) (at : ℕ) : Type 0 where
@@ -309,8 +311,8 @@ module _ (list : List ℕ) (count K d at : ℕ) (s : Site list count K d at) (g 
   plain-here h = go (block-at list at) refl
     where
       go : (b : Block) → block-at list at ≡ b → Plainly list at
-      go end e = absurd (false≢true (ap goes-on (sym e) ∙ g))
-      go (line c b) e = record { command = c; after = b; block = e; says = says-first (plain c) (lines b) (line c b) e refl }
+      go empty e = absurd (false≢true (ap goes-on (sym e) ∙ g))
+      go (single c b) e = record { command = c; after = b; block = e; says = says-first (plain c) (lines b) (single c b) e refl }
       go (pair k i body b) e =
           let says : Says (numbers-at list at) (opens k i) = says-first (opens k i) _ (pair k i body b) e refl in
           absurd (⊎-elim (λ f. omega arith) (λ f. omega arith) (opens-kind (numbers-at list at) k i says))
@@ -319,8 +321,8 @@ module _ (list : List ℕ) (count K d at : ℕ) (s : Site list count K d at) (g 
   pair-here h = go (block-at list at) refl
     where
       go : (b : Block) → block-at list at ≡ b → Paired list at
-      go end e = absurd (false≢true (ap goes-on (sym e) ∙ g))
-      go (line c b) e = absurd (omega (arith, plain-kind (numbers-at list at) c (says-first (plain c) (lines b) (line c b) e refl)))
+      go empty e = absurd (false≢true (ap goes-on (sym e) ∙ g))
+      go (single c b) e = absurd (omega (arith, plain-kind (numbers-at list at) c (says-first (plain c) (lines b) (single c b) e refl)))
       go (pair k i body b) e =
           record {
             kind = k;

@@ -8,29 +8,29 @@ use native.Mathlib.Omega.{arith}
 use lib.ListN.{length, length-append}
 use Rattle.theory.specs.Limits
 use Rattle.theory.specs.ProgramText.{Plain, clear, increment, copy, Kind, loop, while, plain, opens, closes, variables}
-use Rattle.theory.specs.ProgramText.{Block, end, line, pair, lines}
+use Rattle.theory.specs.ProgramText.{Block, empty, single, pair, lines}
 use Rattle.theory.specs.Source.{deeper}
 use Rattle.theory.specs.Word.{Instruction}
 use Rattle.theory.specs.Translation.{plain-code, before-body, code}
-use Rattle.theory.proofs.Sizes.{weight, weight-append}
+use Rattle.theory.proofs.Sizes.{weight-append}
 use Rattle.translation.specs.Pieces.{numbers-at, Says, plain-of, kind-of, Small, front, back}
-use Rattle.translation.specs.Sites.{block-at, goes-on, first, rest, Site}
+use Rattle.translation.specs.Sites.{block-at, goes-on, first, rest, Site, symbols-of}
 use Rattle.translation.specs.declared.lines.Line.{Line}
 use Rattle.translation.proofs.Sites.{numbers-count, Stands, body-site, rest-site, Few, Bounds, bounds}
 use Rattle.translation.proofs.Sites.{Plainly, Paired, plain-here, pair-here}
 
 code-first : (K d : ℕ) (b : Block) → code K d b ≡ code K d (first b) ++ code K d (rest b)
 unfolding code
-code-first K d end = refl
-code-first K d (line c b) = rw (append-nil (plain-code K c))
+code-first K d empty = refl
+code-first K d (single c b) = rw (append-nil (plain-code K c))
 code-first K d (pair k i body b) =
     let inner : List Instruction = code K (deeper k d) body in
     let before : List Instruction = before-body K d k i (length inner) in
     sym (append-assoc before _ _ ∙ ap (λ w. before ++ w) (append-assoc inner _ _))
 
 lines-first : (b : Block) → length (lines b) ≡ length (lines (first b)) + length (lines (rest b))
-lines-first end = refl
-lines-first (line c b) = omega arith
+lines-first empty = refl
+lines-first (single c b) = omega arith
 lines-first (pair k i body b) =
     omega (arith, length-append (lines body) (closes k i ∷ lines b), length-append (lines body) (closes k i ∷ []))
 
@@ -59,9 +59,9 @@ module _ (list : List ℕ) (count K d at : ℕ) where
         line = omega (arith, p .line, lines-first b, ap (λ x. length (lines x)) (r .block));
       }
 
-  nothing-left : (b : Block) → goes-on b ≡ false → b ≡ end
-  nothing-left end e = refl
-  nothing-left (line c b) e = absurd (true≢false e)
+  nothing-left : (b : Block) → goes-on b ≡ false → b ≡ empty
+  nothing-left empty e = refl
+  nothing-left (single c b) e = absurd (true≢false e)
   nothing-left (pair k i body b) e = absurd (true≢false e)
 
   pub record All (next : ℕ) (w : List Instruction) : Type 0 where
@@ -71,7 +71,7 @@ module _ (list : List ℕ) (count K d at : ℕ) where
   pub passed-all : (next : ℕ) (w : List Instruction) → Passed list count K d at next w → goes-on (block-at list next) ≡ false → All next w
   unfolding code
   passed-all next w p g =
-      let e : block-at list next ≡ end = nothing-left (block-at list next) g in
+      let e : block-at list next ≡ empty = nothing-left (block-at list next) g in
       record {
         code = sym (p .code ∙ (ap (λ x. w ++ code K d x) e ∙ append-nil w));
         line = omega (arith, p .line, ap (λ x. length (lines x)) e);
@@ -88,7 +88,7 @@ plain-says l (clear i) s = let e : l .kind ≡ 1 = cc in rw e (cc)
 plain-says l (increment i) s = let e : l .kind ≡ 2 = cc in rw e (cc)
 plain-says l (copy i j) s = let e : l .kind ≡ 3 = cc in rw e (cc)
 
-variables-line : (l : Line) (K : ℕ) (c : Plain) (b : Block) → Says l (plain c) → Few (variables (lines (line c b))) → Few K → Small l K
+variables-line : (l : Line) (K : ℕ) (c : Plain) (b : Block) → Says l (plain c) → Few (variables (lines (single c b))) → Few K → Small l K
 variables-line l K (clear i) b s h k =
     let x : l .index ≡ i = cc in
     let y : l .source ≡ 0 = cc in
@@ -114,8 +114,8 @@ variables-pair l K k i body b s h v =
 
 module _ (list : List ℕ) (count K d at : ℕ) (s : Site list count K d at) (g : goes-on (block-at list at) ≡ true) where
   some-lines : (b : Block) → goes-on b ≡ true → 0 < length (lines (first b))
-  some-lines end e = absurd (true≢false (sym e))
-  some-lines (line c b) e = omega arith
+  some-lines empty e = absurd (true≢false (sym e))
+  some-lines (single c b) e = omega arith
   some-lines (pair k i body b) e = omega arith
 
   -- There is such a line, of three numbers
@@ -125,7 +125,7 @@ module _ (list : List ℕ) (count K d at : ℕ) (s : Site list count K d at) (g 
     pub within : at + length (lines (first (block-at list at))) ≤ count
     pub passes : 0 < length (lines (first (block-at list at)))
     pub instructions : length (code K d (first (block-at list at))) ≤ length (code K d (block-at list at))
-    pub symbols : weight (code K d (first (block-at list at))) ≤ weight (code K d (block-at list at))
+    pub symbols : symbols-of (code K d (first (block-at list at))) ≤ symbols-of (code K d (block-at list at))
 
   pub here : Here
   here =
@@ -140,7 +140,7 @@ module _ (list : List ℕ) (count K d at : ℕ) (s : Site list count K d at) (g 
         within = omega (arith, lines-first b, bounds list count K d at s .ends);
         passes = x;
         instructions = omega (arith, ap length (code-first K d b), length-append f r);
-        symbols = omega (arith, ap weight (code-first K d b), weight-append f r);
+        symbols = omega (arith, ap symbols-of (code-first K d b), weight-append f r);
       }
 
   pub record PlainHere (l : Line) : Type 0 where
@@ -156,7 +156,7 @@ module _ (list : List ℕ) (count K d at : ℕ) (s : Site list count K d at) (g 
       go p =
           let n : Line = numbers-at list at in
           let b : Bounds list count K d at = bounds list count K d at s in
-          let low : Few (variables (lines (line (p .command) (p .after)))) = rw (p .block) at (b .low) in
+          let low : Few (variables (lines (single (p .command) (p .after)))) = rw (p .block) at (b .low) in
           record {
             small = variables-line n K (p .command) (p .after) (p .says) low (b .few-variables);
             code = rw (p .block, plain-says n (p .command) (p .says)) (append-nil (plain-code K (p .command)));

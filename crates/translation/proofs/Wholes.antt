@@ -9,15 +9,15 @@ use Rattle.theory.specs.Word.{Instruction, forward, table-of, spell}
 use Rattle.theory.specs.Translation.{code, word, word-of, word-text}
 use Rattle.theory.specs.TurnedDown.{done, lent-after}
 use Rattle.theory.proofs.Nesting.{well-nested}
-use Rattle.theory.proofs.Sizes.{weight, bytes-length}
+use Rattle.theory.proofs.Sizes.{bytes-length}
 use Rattle.translation.specs.Answers.{size-of}
-use Rattle.program.specs.Puts.{Put}
+use Rattle.text.specs.Puts.{Put}
 use Rattle.translation.specs.Pieces.{text}
-use Rattle.translation.specs.Sites.{program-of, block-at, Known, Site, Counts, Writes}
+use Rattle.translation.specs.Sites.{program-of, block-at, Known, Site, Counts, Writes, symbols-of}
 use Rattle.translation.specs.declared.sizes.Extent.{Extent}
 use Rattle.translation.specs.declared.writing.Spot.{Spot}
 use Rattle.translation.proofs.Sites.{accepted, Stands, whole-site, Bounds, bounds}
-use Rattle.program.proofs.Puts.{put-then, sets-front}
+use Rattle.text.proofs.Puts.{put-then, sets-front}
 use Rattle.translation.proofs.Written.{words-append}
 
 module _ (list : List ℕ) (count K : ℕ) (k : Known list count K) where
@@ -37,9 +37,9 @@ module _ (list : List ℕ) (count K : ℕ) (k : Known list count K) where
       let K-is : variables (lines (block-of p)) ≡ K = ap variables (well-nested p (accepted list count (k .accepts))) ∙ sym (k .names) in
       ap {B = List Instruction} (λ w. forward 1 ∷ w) (rw (K-is, stands .block))
 
-  pub word-length : length (word-text (program-of list)) ≡ 4 + weight (code K 0 (block-at list 0))
+  pub word-length : length (word-text (program-of list)) ≡ 4 + symbols-of (code K 0 (block-at list 0))
   unfolding word-text
-  word-length = bytes-length (word-of (program-of list)) ∙ (ap weight word-is ∙ (omega arith))
+  word-length = bytes-length (word-of (program-of list)) ∙ (ap symbols-of word-is ∙ (omega arith))
 
   pub size-is : (e : Extent) → Counts K 0 0 (block-at list 0) e
       → record { symbols = 4 + e .symbols; instructions = 1 + e .instructions } ≡ size-of (program-of list)

@@ -7,25 +7,25 @@ use Prim.Native.Nat.{ℕ, _+_, _≤_, _<_}
 use native.Mathlib.Omega.{arith}
 use lib.ListN.{length}
 use Rattle.theory.specs.Limits
+use Rattle.theory.specs.ProgramText.{lines}
 use Rattle.theory.specs.Source.{deeper}
 use Rattle.theory.specs.Word.{Instruction, entry-of, table-of, spell-entries}
 use Rattle.theory.specs.Translation.{plain-code, code}
-use Rattle.theory.proofs.Sizes.{weight, weight-append}
 use Rattle.translation.specs.Pieces.{plain-of, kind-of, Small, text}
-use Rattle.program.specs.Puts.{Put}
+use Rattle.text.specs.Puts.{most, Put}
 use Rattle.translation.specs.Sites.{block-at, goes-on, first, Site, Counts, before, after, Wrote, Writes}
 use Rattle.translation.specs.declared.lines.Line.{Line}
 use Rattle.translation.specs.declared.sizes.Extent.{Extent}
 use Rattle.translation.specs.declared.writing.Spot.{Spot}
 use Rattle.translation.proofs.Sites.{bounds}
 use Rattle.translation.proofs.Walks.{Passed, passed-none, passed-more, passed-all, here, PlainHere, PairHere}
-use Rattle.translation.proofs.Counting.{pair-code, pair-weight, pair-asks}
-use Rattle.program.proofs.Puts.{put-then, put-length}
-use Rattle.translation.proofs.Puts.{put-nothing, text-append, text-length}
+use Rattle.translation.proofs.Counting.{pair-code, pair-asks}
+use Rattle.text.proofs.Puts.{put-nothing, put-then}
+use Rattle.text.proofs.Entries.{bytes-append}
 
 -- The text of some instructions, and of more
 pub words-append : (u w : List Instruction) → text (table-of (u ++ w)) ≡ text (table-of u) ++ text (table-of w)
-words-append u w = ap text (L.map-append entry-of u w) ∙ text-append (table-of u) (table-of w)
+words-append u w = ap text (L.map-append entry-of u w) ∙ bytes-append (table-of u) (table-of w)
 
 module _ (list : List ℕ) (count K d at place : ℕ) (start : List ℕ) where
   -- What was passed from line `at` to line `next` was written, from `place` to `end`
@@ -34,9 +34,9 @@ module _ (list : List ℕ) (count K d at place : ℕ) (start : List ℕ) where
     pub passed : Passed list count K d at next code
     pub put : Put (text (table-of code)) place start out end
 
-  pub writing-none : Site list count K d at → Writing start at place
+  pub writing-none : place ≤ most → length start ≤ most → Site list count K d at → Writing start at place
   unfolding spell-entries
-  writing-none s = record { code = []; passed = passed-none list count K d at s; put = put-nothing start place }
+  writing-none h k s = record { code = []; passed = passed-none list count K d at s; put = put-nothing start place h k }
 
   pub writing-more : (out out′ : List ℕ) (next end : ℕ) (s : Spot) → Writing out next end
       → Writes K d next (first (block-at list next)) end out out′ s → Writing out′ (s .next) (s .place)
@@ -48,22 +48,6 @@ module _ (list : List ℕ) (count K d at place : ℕ) (start : List ℕ) where
         put = rw (words-append (c .code) w) (put-then (c .put) (h .put));
       }
 
-  -- There is room for the next line or pair
-  pub writing-room : (out : List ℕ) (next end : ℕ) → Writing out next end → goes-on (block-at list next) ≡ true
-      → place + weight (code K d (block-at list at)) ≤ length start → end + weight (code K d (first (block-at list next))) ≤ length out
-  writing-room out next end c g r =
-      let w : List Instruction = code K d (block-at list next) in
-      let h : _ = here list count K d next (c .passed .site) g in
-      omega (
-        arith,
-        h .symbols,
-        c .put .ended,
-        put-length (c .put),
-        text-length (table-of (c .code)),
-        ap weight (c .passed .code),
-        weight-append (c .code) w,
-      )
-
   pub writing-all : (out : List ℕ) (next end : ℕ) → Writing out next end → goes-on (block-at list next) ≡ false
       → Writes K d at (block-at list at) place start out (record { next = next; place = end })
   writing-all out next end c g =
@@ -72,55 +56,34 @@ module _ (list : List ℕ) (count K d at place : ℕ) (start : List ℕ) where
 
 -- The line or pair at a site
 module _ (list : List ℕ) (count K d at : ℕ) (s : Site list count K d at) (g : goes-on (block-at list at) ≡ true) (l : Line) where
-  pub plain-room : PlainHere list count K d at s g l → (place size : ℕ) → place + weight (code K d (first (block-at list at))) ≤ size
-      → Small l K × (at < Limits.most-lines) × (place + weight (plain-code K (plain-of l)) ≤ size)
-  plain-room p place size r =
-      let b : _ = bounds list count K d at s in
-      let h : _ = here list count K d at s g in
-      (p .small, omega (arith, b .few-lines, h .below), omega (arith, ap weight (p .code)))
+  pub plain-asks : PlainHere list count K d at s g l → Small l K × (at < Limits.most-lines)
+  plain-asks p = (p .small, omega (arith, bounds list count K d at s .few-lines, here list count K d at s g .below))
 
   pub plain-writes : PlainHere list count K d at s g l → (place : ℕ) (start out : List ℕ) (e : Spot)
       → Wrote (plain-code K (plain-of l)) (at + 1) place start out e → Writes K d at (first (block-at list at)) place start out e
   plain-writes p place start out e w = record { put = rw (p .code) (w .put); ended = w .ended ∙ ap (λ n. at + n) (sym (p .line)) }
 
   module _ (p : PairHere list count K d at s g l) (n : ℕ) (m : n ≡ deeper (kind-of (l .kind)) d) (size : Extent)
-      (c : Counts K n (at + 1) (block-at list (at + 1)) size) (place : ℕ) (start : List ℕ)
-      (r : place + weight (code K d (first (block-at list at))) ≤ length start) where
-    -- The text before the body, and the whole pair's symbols
+      (c : Counts K n (at + 1) (block-at list (at + 1)) size) where
     abbrev front : List Instruction
     front = before K d l size
 
     abbrev body : List Instruction
     body = code K n (block-at list (at + 1))
 
-    sum : weight (code K d (first (block-at list at))) ≡ weight front + weight body + weight (after K d l size)
-    sum = rw (← c .symbols) (pair-weight list count K d at s g l p n m size c)
+    pub front-asks : Small l K × (d ≤ Limits.most-open) × (size .instructions ≤ Limits.most-instructions)
+    front-asks = let a : _ = pair-asks list count K d at s g l p n m size c in (a .0, a .1, a .2 .instructions)
 
-    pub front-room :
-        Small l K × (d ≤ Limits.most-open) × (size .instructions ≤ Limits.most-instructions) × (place + weight front ≤ length start)
-    front-room =
+    pub back-asks : {next : ℕ} → next ≡ at + 1 + length (lines (block-at list (at + 1)))
+        → (size .instructions ≤ Limits.most-instructions) × (next < Limits.most-lines)
+    back-asks e =
         let a : _ = pair-asks list count K d at s g l p n m size c in
-        (a .0, a .1, a .2 .instructions, omega (arith, sum))
+        (a .2 .instructions, omega (arith, a .2 .next, c .ended, e))
 
-    pub body-room : (out : List ℕ) (from : ℕ) → Put (text (table-of front)) place start out from → from + weight body ≤ length out
-    body-room out from f = omega (arith, sum, f .ended, put-length f, text-length (table-of front))
-
-    pub back-room : (out out′ : List ℕ) (from : ℕ) (b : Spot) → Put (text (table-of front)) place start out from
-        → Writes K n (at + 1) (block-at list (at + 1)) from out out′ b
-        → (size .instructions ≤ Limits.most-instructions) × (b .next < Limits.most-lines)
-        × (b .place + weight (after K d l size) ≤ length out′)
-    back-room out out′ from b f w =
-        let a : _ = pair-asks list count K d at s g l p n m size c in
-        let lengths : length out′ ≡ length start = put-length (w .put) ∙ put-length f in (
-          a .2 .instructions,
-          omega (arith, a .2 .next, c .ended, w .ended),
-          omega (arith, sum, f .ended, w .put .ended, text-length (table-of front), text-length (table-of body)),
-        )
-
-    pub pair-writes : (out out′ out″ : List ℕ) (from : ℕ) (b e : Spot) → Put (text (table-of front)) place start out from
+    pub pair-writes : (place : ℕ) (start out out′ out″ : List ℕ) (from : ℕ) (b e : Spot) → Put (text (table-of front)) place start out from
         → Writes K n (at + 1) (block-at list (at + 1)) from out out′ b
         → Wrote (after K d l size) (b .next + 1) (b .place) out′ out″ e → Writes K d at (first (block-at list at)) place start out″ e
-    pair-writes out out′ out″ from b e f w h =
+    pair-writes place start out out′ out″ from b e f w h =
         let back : List Instruction = after K d l size in
         let whole : List Instruction = code K d (first (block-at list at)) in
         let text-is : text (table-of whole) ≡ text (table-of front) ++ (text (table-of body) ++ text (table-of back)) =

@@ -5,17 +5,13 @@ use Prim.Native.Nat.{ℕ}
 use lib.ListN.{length}
 use Rattle.theory.specs.ProgramText.{Command}
 use Rattle.theory.specs.Translation.{word-of, word-text}
-use Rattle.theory.specs.TurnedDown.{Answer, done, refused, answer, after, mapped, rule-19, lent-after}
+use Rattle.theory.specs.TurnedDown.{Answer, done, refused, answer, after, mapped, rule-19, lent-after, translate-into}
 use Rattle.translation.specs.declared.Size.{Size}
 use Rattle.translation.specs.declared.Translated.{Translated}
 use Rattle.translation.specs.declared.Translated.the-variants as T
 
 abbrev pub size-of : List Command → Size
 size-of p = record { symbols = length (word-text p); instructions = length (word-of p) }
-
--- A program handed in as A, translated into a lent output: its own rules, then 19
-unfoldable pub translate-into : List ℕ → Answer (List Command) → Answer (List Command)
-translate-into lent A = after A λ p. answer (rule-19 lent (word-text p)) p
 
 abbrev pub translated : Answer (List Command) → Translated
 translated (done p) = T.Done (size-of p)

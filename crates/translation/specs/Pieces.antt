@@ -10,8 +10,7 @@ use Rattle.theory.specs.ProgramText.{Plain, clear, increment, copy, Kind, loop,
 use Rattle.theory.specs.Text.{Bytes}
 use Rattle.theory.specs.Word.{Instruction, append, forward, cases, one, Entry, table-of, spell-entries, bytes-of}
 use Rattle.theory.specs.Translation.{sharing, returning, before-body, after-body}
-use Rattle.theory.specs.TurnedDown.{total}
-use Rattle.program.specs.Puts.{Put}
+use Rattle.text.specs.Puts.{Put}
 use Rattle.translation.specs.declared.lines.Line.{Line}
 
 -- The three numbers of line n of a list, from 0
@@ -53,10 +52,9 @@ back n m = after-body (kind-of n) m ∷ []
 abbrev pub text : List Entry → Bytes
 text t = bytes-of (spell-entries t)
 
--- It was written at a place, over `before`, which is then `after`, up to another
+-- It was put at a place, over `before`, which is then `after`, up to another
 pub record Spelt (t : List Entry) (place : ℕ) (before after : List ℕ) (end : ℕ) : Type 0 where
   pub put : Put (text t) place before after end
-  pub ended : end ≡ place + total t
 
 -- So were some instructions
 abbrev pub Written : List Instruction → ℕ → List ℕ → List ℕ → ℕ → Type 0

@@ -2,17 +2,15 @@
 use mathlib.Core.Path.{_≡_}
 use mathlib.Core.Bool.{Bool, true, false}
 use mathlib.Core.List.{List, _++_}
-use Prim.Native.Nat.{ℕ, _+_, _≤_, _<_}
+use Prim.Native.Nat.{ℕ, suc, _+_, _≤_, _<_, max}
 use lib.ListN.{length, drop}
 use Rattle.theory.specs.Limits
 use Rattle.theory.specs.Basics.{present}
-use Rattle.theory.specs.ProgramText.{Command, variables, listed, Block, end, line, pair, lines, blocks}
+use Rattle.theory.specs.ProgramText.{Command, variables, listed, Block, empty, single, pair, lines, blocks}
 use Rattle.theory.specs.Word.{Instruction, table-of}
 use Rattle.theory.specs.Translation.{code}
-use Rattle.theory.specs.TurnedDown.{done, read-list}
-use Rattle.theory.proofs.Nesting.{nest}
-use Rattle.theory.proofs.Sizes.{weight}
-use Rattle.program.specs.Puts.{Put}
+use Rattle.theory.specs.TurnedDown.{done, read-list, total}
+use Rattle.text.specs.Puts.{Put}
 use Rattle.translation.specs.Pieces.{front, back, text}
 use Rattle.translation.specs.declared.lines.Line.{Line}
 use Rattle.translation.specs.declared.sizes.Extent.{Extent}
@@ -27,19 +25,29 @@ block-at list n = blocks (drop n (program-of list)) .first
 
 -- Whether a block has a first line or pair; that alone; and what follows it
 abbrev pub goes-on : Block → Bool
-goes-on end = false
-goes-on (line c b) = true
+goes-on empty = false
+goes-on (single c b) = true
 goes-on (pair k i body b) = true
 
 abbrev pub first : Block → Block
-first end = end
-first (line c b) = line c end
-first (pair k i body b) = pair k i body end
+first empty = empty
+first (single c b) = single c empty
+first (pair k i body b) = pair k i body empty
 
 abbrev pub rest : Block → Block
-rest end = end
-rest (line c b) = b
+rest empty = empty
+rest (single c b) = b
 rest (pair k i body b) = b
+
+-- How many pairs are open together inside a block, at most
+abbrev pub pairs-deep : Block → ℕ
+pairs-deep empty = 0
+pairs-deep (single c b) = pairs-deep b
+pairs-deep (pair k i body b) = max (suc (pairs-deep body)) (pairs-deep b)
+
+-- The symbols of some instructions
+abbrev pub symbols-of : List Instruction → ℕ
+symbols-of w = total (table-of w)
 
 -- An accepted list of so many lines
 pub record Accepts (list : List ℕ) (count : ℕ) : Type 0 where
@@ -57,13 +65,13 @@ pub record Site (list : List ℕ) (count K d at : ℕ) : Type 0 where
   pub within : at ≤ count
   pub later : List Command
   pub split : drop at (program-of list) ≡ lines (block-at list at) ++ later
-  pub stops : blocks later .first ≡ end
-  pub room : d + nest (block-at list at) ≤ Limits.most-open
+  pub stops : blocks later .first ≡ empty
+  pub room : d + pairs-deep (block-at list at) ≤ Limits.most-open
 
 -- What some instructions count, up to a line
 pub record Counted (w : List Instruction) (next : ℕ) (e : Extent) : Type 0 where
   pub instructions : e .instructions ≡ length w
-  pub symbols : e .symbols ≡ weight w
+  pub symbols : e .symbols ≡ symbols-of w
   pub ended : e .next ≡ next
 
 -- So does the code of a block that begins at line `at`, inside d loops
@@ -85,13 +93,13 @@ module _ (K d : ℕ) (l : Line) (body : Extent) where
   -- The sums do not wrap
   pub record Roomy : Type 0 where
     pub instructions : body .instructions ≤ Limits.most-instructions
-    pub symbols : weight before + body .symbols + weight after ≤ Limits.most-symbols
+    pub symbols : symbols-of before + body .symbols + symbols-of after ≤ Limits.most-symbols
     pub next : body .next < Limits.most-lines
 
   -- An extent counts the body with both
   pub record Around (e : Extent) : Type 0 where
     pub instructions : e .instructions ≡ length before + body .instructions + length after
-    pub symbols : e .symbols ≡ weight before + body .symbols + weight after
+    pub symbols : e .symbols ≡ symbols-of before + body .symbols + symbols-of after
     pub ended : e .next ≡ body .next + 1
 
 -- Some instructions were written, up to a line

@@ -11,8 +11,8 @@ ghost use mathlib.Core.Path.{_≡_};
 ghost use Prim.Native.Nat.{_≤_};
 ghost use lib.ListN.{length};
 ghost use Rattle.theory.specs.Translation.{word-text};
-ghost use Rattle.theory.specs.TurnedDown.{done, read-list, read-text, lent-after};
-ghost use Rattle.translation.specs.Answers.{size-of, translate-into, translated, output, Answered};
+ghost use Rattle.theory.specs.TurnedDown.{done, read-list, read-text, lent-after, translate-into};
+ghost use Rattle.translation.specs.Answers.{size-of, translated, output, Answered};
 ghost use Rattle.translation.specs.Sites.{program-of, Known};
 
 // The size of a word: its symbols and its instructions.

@@ -34,7 +34,7 @@ pub fn begins(list: &[u8], lines: usize, at: usize) -> bool
     if at < lines {
         let kind = list[3 * at];
         match kind {
-            5 | 7 => false,
+            command::ENDLOOP | command::ENDWHILE => false,
             _ => true,
         }
     } else {
@@ -48,7 +48,7 @@ pub fn deeper(kind: u8, depth: usize) -> usize
     ensures { λ r. ⌜ r ≡ S.deeper (kind-of kind) depth ⌝ }
 {
     match kind {
-        4 => depth + 1,
+        command::LOOP => depth + 1,
         _ => depth,
     }
 }

@@ -1,13 +1,11 @@
 // The instructions of a plain line and of the two ends of a pair, each written at a place of the output.
 ghost use mathlib.Core.List.{[], _∷_};
-ghost use Prim.Native.Nat.{_+_, _≤_};
-ghost use lib.ListN.{length, replicate};
+ghost use Prim.Native.Nat.{_≤_};
 ghost use Rattle.theory.specs.Limits as Limits;
 ghost use Rattle.theory.specs.Translation as T;
-ghost use Rattle.theory.proofs.Sizes.{weight};
-ghost use Rattle.program.specs.Puts.{Put};
 ghost use Rattle.translation.specs.Pieces.{plain-of, Small, looping, testing, front, back, Spelt, Written};
 use crate::lines::Line;
+use text::put;
 
 // The number of # of an instruction, by its kind.
 const APPEND: usize = 1;
@@ -18,31 +16,15 @@ const BACKWARD: usize = 4;
 
 const CASES: usize = 5;
 
-// A symbol, so many times.
-fn put_run(out: &mut [u8], place: usize, count: usize, symbol: u8) -> usize
-    requires { ⌜ place + count ≤ length (now out) ⌝ }
-    ensures { λ r. ⌜ Put (replicate count symbol) place (now (out .entry)) (now (out .exit)) r ⌝ }
-{
-    let mut i: usize = 0;
-    while i < count {
-        out[place + i] = symbol;
-        i += 1;
-    }
-    place + count
-}
-
 // One instruction: `operand` times 1, and then `kind` times #. What it returns, as the functions below do, is the place after it.
 pub fn put_instruction(out: &mut [u8], place: usize, operand: usize, kind: usize) -> usize
-    requires { ⌜ place + (operand + kind) ≤ length (now out) ⌝ }
     ensures { λ r. ⌜ Spelt (record { kind = kind; operand = operand } ∷ []) place (now (out .entry)) (now (out .exit)) r ⌝ }
 {
-    let middle = put_run(&mut *out, place, operand, 49);
-    put_run(&mut *out, middle, kind, 35)
+    put::put_runs(out, place, operand, b'1', kind, b'#')
 }
 
 // C a, F2, B2
 fn clearing(out: &mut [u8], place: usize, a: usize) -> usize
-    requires { ⌜ place + weight (T.clearing a) ≤ length (now out) ⌝ }
     ensures { λ r. ⌜ Written (T.clearing a) place (now (out .entry)) (now (out .exit)) r ⌝ }
 {
     let second = put_instruction(&mut *out, place, a, CASES);
@@ -52,7 +34,6 @@ fn clearing(out: &mut [u8], place: usize, a: usize) -> usize
 
 // C a, Fn, +a: a copy of a into itself, by n = 2, and what stands before the body of a WHILE
 fn testing(out: &mut [u8], place: usize, a: usize, n: usize) -> usize
-    requires { ⌜ place + weight (testing a n) ≤ length (now out) ⌝ }
     ensures { λ r. ⌜ Written (testing a n) place (now (out .entry)) (now (out .exit)) r ⌝ }
 {
     let second = put_instruction(&mut *out, place, a, CASES);
@@ -62,7 +43,6 @@ fn testing(out: &mut [u8], place: usize, a: usize, n: usize) -> usize
 
 // C a, F4, +b, +t, B4
 fn sharing(out: &mut [u8], place: usize, a: usize, b: usize, t: usize) -> usize
-    requires { ⌜ place + weight (T.sharing a b t) ≤ length (now out) ⌝ }
     ensures { λ r. ⌜ Written (T.sharing a b t) place (now (out .entry)) (now (out .exit)) r ⌝ }
 {
     let second = put_instruction(&mut *out, place, a, CASES);
@@ -74,7 +54,6 @@ fn sharing(out: &mut [u8], place: usize, a: usize, b: usize, t: usize) -> usize
 
 // C t, F3, +a, B3
 fn returning(out: &mut [u8], place: usize, t: usize, a: usize) -> usize
-    requires { ⌜ place + weight (T.returning t a) ≤ length (now out) ⌝ }
     ensures { λ r. ⌜ Written (T.returning t a) place (now (out .entry)) (now (out .exit)) r ⌝ }
 {
     let second = put_instruction(&mut *out, place, t, CASES);
@@ -85,7 +64,6 @@ fn returning(out: &mut [u8], place: usize, t: usize, a: usize) -> usize
 
 // C b, F2, B2, C a, F4, +b, +t, B4, C t, F3, +a, B3
 fn copying(out: &mut [u8], place: usize, a: usize, b: usize, t: usize) -> usize
-    requires { ⌜ place + weight (T.copying a b t) ≤ length (now out) ⌝ }
     ensures { λ r. ⌜ Written (T.copying a b t) place (now (out .entry)) (now (out .exit)) r ⌝ }
 {
     let cleared = clearing(&mut *out, place, b);
@@ -95,15 +73,15 @@ fn copying(out: &mut [u8], place: usize, a: usize, b: usize, t: usize) -> usize
 
 // A plain line of a program of so many variables.
 pub fn plain_line(out: &mut [u8], place: usize, line: Line, variables: usize) -> usize
-    requires { ⌜ Small line variables × (place + weight (T.plain-code variables (plain-of line)) ≤ length (now out)) ⌝ }
+    requires { ⌜ Small line variables ⌝ }
     ensures { λ r. ⌜ Written (T.plain-code variables (plain-of line)) place (now (out .entry)) (now (out .exit)) r ⌝ }
 {
     let b = line.index + 1;
     let a = line.source + 1;
     let kind = line.kind;
     match kind {
-        1 => clearing(&mut *out, place, b),
-        2 => put_instruction(&mut *out, place, b, APPEND),
+        command::CLEAR => clearing(&mut *out, place, b),
+        command::INCREMENT => put_instruction(&mut *out, place, b, APPEND),
         _ => {
             if line.index == line.source {
                 testing(&mut *out, place, a, 2)
@@ -116,7 +94,6 @@ pub fn plain_line(out: &mut [u8], place: usize, line: Line, variables: usize) ->
 
 // C a, F4, +c, +t, B4, C t, F3, +a, B3, C c, Fn: what stands before the body of a LOOP
 fn looping(out: &mut [u8], place: usize, a: usize, c: usize, t: usize, n: usize) -> usize
-    requires { ⌜ place + weight (looping a c t n) ≤ length (now out) ⌝ }
     ensures { λ r. ⌜ Written (looping a c t n) place (now (out .entry)) (now (out .exit)) r ⌝ }
 {
     let shared = sharing(&mut *out, place, a, c, t);
@@ -134,8 +111,7 @@ pub fn before_body(
     depth: usize,
     m: usize,
 ) -> usize
-    requires { ⌜ Small line variables × (depth ≤ Limits.most-open) × (m ≤ Limits.most-instructions)
-        × (place + weight (front variables depth line m) ≤ length (now out)) ⌝ }
+    requires { ⌜ Small line variables × (depth ≤ Limits.most-open) × (m ≤ Limits.most-instructions) ⌝ }
     ensures { λ r. ⌜ Written (front variables depth line m) place (now (out .entry)) (now (out .exit)) r ⌝ }
 {
     let a = line.index + 1;
@@ -143,18 +119,18 @@ pub fn before_body(
     let c = variables + 2 + depth;
     let kind = line.kind;
     match kind {
-        4 => looping(&mut *out, place, a, c, t, m + 2),
+        command::LOOP => looping(&mut *out, place, a, c, t, m + 2),
         _ => testing(&mut *out, place, a, m + 3),
     }
 }
 
 // What stands after it: B(m+2) or B(m+3).
 pub fn after_body(out: &mut [u8], place: usize, kind: u8, m: usize) -> usize
-    requires { ⌜ (m ≤ Limits.most-instructions) × (place + weight (back kind m) ≤ length (now out)) ⌝ }
+    requires { ⌜ m ≤ Limits.most-instructions ⌝ }
     ensures { λ r. ⌜ Written (back kind m) place (now (out .entry)) (now (out .exit)) r ⌝ }
 {
     match kind {
-        4 => put_instruction(&mut *out, place, m + 2, BACKWARD),
+        command::LOOP => put_instruction(&mut *out, place, m + 2, BACKWARD),
         _ => put_instruction(&mut *out, place, m + 3, BACKWARD),
     }
 }

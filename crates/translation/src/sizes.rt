@@ -37,8 +37,8 @@ fn line_size(line: lines::Line, variables: usize, at: usize) -> Extent
     let next = at + 1;
     let kind = line.kind;
     match kind {
-        1 => extent_of(3, b + 16, next),
-        2 => extent_of(1, b + 1, next),
+        command::CLEAR => extent_of(3, b + 16, next),
+        command::INCREMENT => extent_of(1, b + 1, next),
         _ => {
             if line.index == line.source {
                 extent_of(3, 2 * a + 11, next)
@@ -61,7 +61,7 @@ fn around(line: lines::Line, variables: usize, depth: usize, body: Extent) -> Ex
     let next = body.next + 1;
     let kind = line.kind;
     match kind {
-        4 => extent_of(m + 12, 2 * (a + c + t + m) + 57 + body.symbols, next),
+        command::LOOP => extent_of(m + 12, 2 * (a + c + t + m) + 57 + body.symbols, next),
         _ => extent_of(m + 4, 2 * (a + m) + 19 + body.symbols, next),
     }
 }

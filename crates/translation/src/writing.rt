@@ -2,10 +2,8 @@
 ghost use mathlib.Core.Path.{_≡_};
 ghost use mathlib.Core.Bool.{true};
 ghost use Prim.Native.Nat.{_+_, _≤_, _<_};
-ghost use lib.ListN.{length};
 ghost use Rattle.theory.specs.Limits as Limits;
-ghost use Rattle.theory.specs.Translation.{plain-code, code};
-ghost use Rattle.theory.proofs.Sizes.{weight};
+ghost use Rattle.theory.specs.Translation.{plain-code};
 ghost use Rattle.translation.specs.Pieces.{plain-of, Small, back};
 ghost use Rattle.translation.specs.Sites.{Site, block-at, goes-on, first, Wrote, Writes};
 use crate::lines;
@@ -20,8 +18,7 @@ pub struct Spot {
 
 // A plain line, at line `at`.
 fn put_line(line: lines::Line, variables: usize, at: usize, out: &mut [u8], place: usize) -> Spot
-    requires { ⌜ Small line variables × (at < Limits.most-lines)
-        × (place + weight (plain-code variables (plain-of line)) ≤ length (now out)) ⌝ }
+    requires { ⌜ Small line variables × (at < Limits.most-lines) ⌝ }
     ensures { λ r. ⌜ Wrote (plain-code variables (plain-of line)) (at + 1) place (now (out .entry)) (now (out .exit)) r ⌝ }
 {
     let end = pieces::plain_line(&mut *out, place, line, variables);
@@ -33,8 +30,7 @@ fn put_line(line: lines::Line, variables: usize, at: usize, out: &mut [u8], plac
 
 // What stands after a body of m instructions, and its closing line.
 fn put_after(kind: u8, m: usize, out: &mut [u8], body: Spot) -> Spot
-    requires { ⌜ (m ≤ Limits.most-instructions) × (body .next < Limits.most-lines)
-        × (body .place + weight (back kind m) ≤ length (now out)) ⌝ }
+    requires { ⌜ (m ≤ Limits.most-instructions) × (body .next < Limits.most-lines) ⌝ }
     ensures { λ r. ⌜ Wrote (back kind m) (body .next + 1) (body .place) (now (out .entry)) (now (out .exit)) r ⌝ }
 {
     let end = pieces::after_body(&mut *out, body.place, kind, m);
@@ -54,8 +50,7 @@ pub fn put_block(
     out: &mut [u8],
     place: usize,
 ) -> Spot
-    requires { ⌜ Site (now list) lines variables depth at
-        × (place + weight (code variables depth (block-at (now list) at)) ≤ length (now out)) ⌝ }
+    requires { ⌜ Site (now list) lines variables depth at ⌝ }
     ensures { λ r. ⌜ Writes variables depth at (block-at (now (list .entry)) at) place (now (out .entry)) (now (out .exit)) r ⌝ }
 {
     let mut next = at;
@@ -78,8 +73,7 @@ fn put_pair(
     out: &mut [u8],
     place: usize,
 ) -> Spot
-    requires { ⌜ Site (now list) lines variables depth at × (goes-on (block-at (now list) at) ≡ true)
-        × (place + weight (code variables depth (first (block-at (now list) at))) ≤ length (now out)) ⌝ }
+    requires { ⌜ Site (now list) lines variables depth at × (goes-on (block-at (now list) at) ≡ true) ⌝ }
     ensures { λ r. ⌜ Writes variables depth at (first (block-at (now (list .entry)) at)) place (now (out .entry)) (now (out .exit)) r ⌝ }
 {
     let line = lines::line_at(list, at);

@@ -13,15 +13,11 @@ use lib.Dec.{eqb, leb}
 use borrow.Author.Tests.{eq-eqb, ne-eqb, eqb-false, le-leb, lt-leb, leb-true, leb-false, lt-ltb, le-ltb}
 use Rattle.theory.specs.Limits
 use Rattle.theory.specs.Word.{Entry, entries}
-use Rattle.theory.specs.TurnedDown.{word-entries, entry-fault, entry-size, first-along, total, rule-13, rule-14}
-use Rattle.theory.proofs.Words.{entry}
+use Rattle.theory.specs.TurnedDown.{word-entries, entry-fault, entry-size, first-along, total, rule-13, rule-14, next-byte}
+use Rattle.theory.proofs.Words.{entry, total-append}
 use Rattle.word.specs.declared.answers.Read.the-variants.{Done, Refused}
 use Rattle.word.specs.Scan.{kind-number, item, item-at, ones-at, hashes-at, fault-place, scan-answer}
 use Rattle.word.proofs.Items.{Known, entries-at, next-within}
-
-pub total-append : (t u : List Entry) → total (t ++ u) ≡ total t + total u
-total-append [] u = omega arith
-total-append (e ∷ t) u = omega (arith, total-append t u)
 
 -- The entries before the place `at` are `count`, and have no fault of rule 13
 pub record Along (w : List ℕ) (at count : ℕ) : Type 0 where
@@ -29,7 +25,7 @@ pub record Along (w : List ℕ) (at count : ℕ) : Type 0 where
   pub passed : count ≤ length (word-entries w)
   pub start : at ≡ total (take count (word-entries w))
   pub rest : word-entries (drop at w) ≡ drop count (word-entries w)
-  pub clean : first-along entry-fault at (drop count (word-entries w)) ≡ first-along entry-fault 0 (word-entries w)
+  pub clean : first-along next-byte entry-fault at (drop count (word-entries w)) ≡ first-along next-byte entry-fault 0 (word-entries w)
 
 pub along-start : (w : List ℕ) → Along w 0 0
 along-start w = record { reached = zero-le; passed = zero-le; start = refl; rest = refl; clean = refl }
@@ -80,11 +76,11 @@ module _ (at n k : ℕ) where
 -- One entry further
 
 module _ (f : ℕ → Entry → Option ℕ) (at : ℕ) (e : Entry) (t : List Entry) where
-  along-past : f at e ≡ none → first-along f at (e ∷ t) ≡ first-along f (at + entry-size e) t
+  along-past : f at e ≡ none → first-along next-byte f at (e ∷ t) ≡ first-along next-byte f (at + entry-size e) t
   unfolding first-along
   along-past h = rw h
 
-  along-here : (place : ℕ) → f at e ≡ some place → first-along f at (e ∷ t) ≡ some place
+  along-here : (place : ℕ) → f at e ≡ some place → first-along next-byte f at (e ∷ t) ≡ some place
   unfolding first-along
   along-here place h = rw h
 
@@ -110,12 +106,13 @@ module _ (w : List ℕ) (known : Known w) (at count : ℕ) (a : Along w at count
   behind : word-entries (drop (at + n + k) w) ≡ drop (suc count) t
   behind = let c : _ = drop-cons t count (entry 0 0) entry-left in cc left
 
-  clean-next : entry-fault at (entry n k) ≡ none → first-along entry-fault (at + n + k) (drop (suc count) t) ≡ first-along entry-fault 0 t
+  clean-next : entry-fault at (entry n k) ≡ none
+      → first-along next-byte entry-fault (at + n + k) (drop (suc count) t) ≡ first-along next-byte entry-fault 0 t
   clean-next f =
       let place : at + n + k ≡ at + (n + k) = omega arith in
-      ap₂ (λ (m : ℕ) (l : List Entry). first-along entry-fault m l) place (sym behind)
+      ap₂ (λ (m : ℕ) (l : List Entry). first-along next-byte entry-fault m l) place (sym behind)
       ∙ sym (along-past entry-fault at (entry n k) (word-entries (drop (at + n + k) w)) f)
-      ∙ ap (λ (l : List Entry). first-along entry-fault at l) (sym left)
+      ∙ ap (λ (l : List Entry). first-along next-byte entry-fault at l) (sym left)
       ∙ a .clean
 
   pub along-next : entry-fault at (entry n k) ≡ none → Along w (at + n + k) (count + 1)
@@ -132,10 +129,10 @@ module _ (w : List ℕ) (known : Known w) (at count : ℕ) (a : Along w at count
       }
 
   -- Rule 13 turns the word down at an entry that has a fault
-  pub fault-here : (place : ℕ) → entry-fault at (entry n k) ≡ some place → first-along entry-fault 0 t ≡ some place
+  pub fault-here : (place : ℕ) → entry-fault at (entry n k) ≡ some place → first-along next-byte entry-fault 0 t ≡ some place
   fault-here place f =
       sym (a .clean)
-      ∙ ap (λ (l : List Entry). first-along entry-fault at l) left
+      ∙ ap (λ (l : List Entry). first-along next-byte entry-fault at l) left
       ∙ along-here entry-fault at (entry n k) (word-entries (drop (at + n + k) w)) place f
 
 -- What `item_at` hands back where a reader stands
@@ -155,22 +152,23 @@ module _ (w : List ℕ) (known : Known w) (at count : ℕ) (a : Along w at count
 
 -- At the word's end every entry is passed
 pub along-end : (w : List ℕ) (at count : ℕ) → Along w at count → length w ≤ at
-    → (count ≡ length (word-entries w)) × (first-along entry-fault 0 (word-entries w) ≡ none)
+    → (count ≡ length (word-entries w)) × (first-along next-byte entry-fault 0 (word-entries w) ≡ none)
 unfolding first-along entries
 along-end w at count a h =
     let none-left : drop count (word-entries w) ≡ [] = sym (a .rest) ∙ ap word-entries (drop-of-length-le w h) in
     let all : length (drop count (word-entries w)) ≡ 0 = ap length none-left in (
       omega (arith, length-drop count (word-entries w), a .passed),
-      sym (a .clean) ∙ ap (λ (l : List Entry). first-along entry-fault at l) none-left,
+      sym (a .clean) ∙ ap (λ (l : List Entry). first-along next-byte entry-fault at l) none-left,
     )
 
 -- Rule 14: the answer, with the start of the first instruction too many
-pub scan-count : (w : List ℕ) (count : ℕ) → count ≡ length (word-entries w) → first-along entry-fault 0 (word-entries w) ≡ none
+pub scan-count : (w : List ℕ) (count : ℕ) → count ≡ length (word-entries w) → first-along next-byte entry-fault 0 (word-entries w) ≡ none
     → count ≤ Limits.most-instructions → Done count ≡ scan-answer w
 unfolding scan-answer rule-13 rule-14
 scan-count w count e f h = rw (f, le-leb (length (word-entries w)) Limits.most-instructions (omega arith)) (ap Done e)
 
-pub scan-many : (w : List ℕ) (count extra : ℕ) → count ≡ length (word-entries w) → first-along entry-fault 0 (word-entries w) ≡ none
+pub scan-many : (w : List ℕ) (count extra : ℕ) → count ≡ length (word-entries w)
+    → first-along next-byte entry-fault 0 (word-entries w) ≡ none
     → Limits.most-instructions < count → extra ≡ total (take Limits.most-instructions (word-entries w))
     → Refused (record { number = 14; place = extra }) ≡ scan-answer w
 unfolding scan-answer rule-13 rule-14

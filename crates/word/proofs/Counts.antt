@@ -11,23 +11,21 @@ use lib.Dec.{eqb, leb, ltb}
 use borrow.Author.Tests.{lt-ltb, le-ltb, le-leb, lt-leb, eqb-true, eqb-false, ltb-true, ltb-false, not-true, not-false}
 use Rattle.theory.specs.Limits
 use Rattle.theory.specs.Word.{Entry}
-use Rattle.theory.specs.TurnedDown.{total, bad-entry, first-entry, read-table, table-fault, table-rule-11, table-rule-13}
-use Rattle.theory.specs.TurnedDown.{table-rule-14}
-use Rattle.theory.proofs.Words.{entry}
+use Rattle.theory.specs.TurnedDown.{total, bad-entry, read-table, table-fault, table-rule-11, first-along, next-entry, rule-13, rule-14}
+use Rattle.theory.proofs.Words.{entry, total-append}
 use Rattle.word.specs.declared.writing.Tally.{Tally}
 use Rattle.word.specs.declared.answers.Read.{Read}
 use Rattle.word.specs.declared.answers.Read.the-variants.{Done, Refused}
 use Rattle.word.specs.Answers.{zipped, read-answer}
-use Rattle.word.specs.Scan.{leading}
+use Rattle.text.specs.Runs.{leading}
 use Rattle.word.specs.Tables.{is-bad, is-good, tally-of, noted, judged}
-use Rattle.word.proofs.Runs.{leading-pass, leading-fail, leading-nil, leading-length}
-use Rattle.word.proofs.Along.{total-append}
+use Rattle.text.proofs.Runs.{leading-pass, leading-fail, leading-nil, leading-length}
 use Rattle.word.proofs.Fills.{lt-or-le}
 
 -- One entry more
 
 module _ {A : Type 0} (f : A → Bool) where
-  leading-all : (l m : List A) → leading f l ≡ length l → leading f (l ++ m) ≡ length l + leading f m
+  pub leading-all : (l m : List A) → leading f l ≡ length l → leading f (l ++ m) ≡ length l + leading f m
   leading-all [] m h = omega arith
   leading-all (a ∷ l) m h = go (f a) refl (leading-all l m)
     where
@@ -88,26 +86,27 @@ module _ (t : List Entry) (e : Entry) where
 
 -- Rule 13
 
-bad-some : (n : ℕ) (t : List Entry) → leading is-good t < length t → first-entry bad-entry n t ≡ some (n + leading is-good t)
-unfolding first-entry
+bad-some : (n : ℕ) (t : List Entry) → leading is-good t < length t → first-along next-entry bad-entry n t ≡ some (n + leading is-good t)
+unfolding first-along
 bad-some n [] h = absurd (omega arith)
 bad-some n (e ∷ t) h = go (is-good e) refl (bad-some (suc n) t)
   where
-    go : (b : Bool) → is-good e ≡ b → (leading is-good t < length t → first-entry bad-entry (suc n) t ≡ some (suc n + leading is-good t))
-        → first-entry bad-entry n (e ∷ t) ≡ some (n + leading is-good (e ∷ t))
+    go : (b : Bool) → is-good e ≡ b
+        → (leading is-good t < length t → first-along next-entry bad-entry (suc n) t ≡ some (suc n + leading is-good t))
+        → first-along next-entry bad-entry n (e ∷ t) ≡ some (n + leading is-good (e ∷ t))
     go true q r =
         let more : suc n + leading is-good t ≡ n + leading is-good (e ∷ t) = omega (arith, leading-pass is-good e t q) in
         rw (not-true (is-bad e) q) (r (omega (arith, leading-pass is-good e t q)) ∙ ap some more)
     go false q r = let here : n ≡ n + leading is-good (e ∷ t) = omega (arith, leading-fail is-good e t q) in rw (not-false (is-bad e) q)
         (ap some here)
 
-bad-none : (n : ℕ) (t : List Entry) → leading is-good t ≡ length t → first-entry bad-entry n t ≡ none
-unfolding first-entry
+bad-none : (n : ℕ) (t : List Entry) → leading is-good t ≡ length t → first-along next-entry bad-entry n t ≡ none
+unfolding first-along
 bad-none n [] h = refl
 bad-none n (e ∷ t) h = go (is-good e) refl (bad-none (suc n) t)
   where
-    go : (b : Bool) → is-good e ≡ b → (leading is-good t ≡ length t → first-entry bad-entry (suc n) t ≡ none)
-        → first-entry bad-entry n (e ∷ t) ≡ none
+    go : (b : Bool) → is-good e ≡ b → (leading is-good t ≡ length t → first-along next-entry bad-entry (suc n) t ≡ none)
+        → first-along next-entry bad-entry n (e ∷ t) ≡ none
     go true q r = rw (not-true (is-bad e) q) (r (omega (arith, leading-pass is-good e t q)))
     go false q r = absurd (omega (arith, leading-fail is-good e t q))
 
@@ -131,16 +130,16 @@ module _ (t : List Entry) where
   too-large g h = rw (le-leb 1 (length t) g, lt-leb (total t) Limits.most-symbols h)
 
   one-bad : Sized → leading is-good t < length t → Answered (Refused (record { number = 13; place = leading is-good t }))
-  unfolding read-table table-fault table-rule-11 table-rule-13
+  unfolding read-table table-fault table-rule-11 rule-13
   one-bad s h = let here : 0 + leading is-good t ≡ leading is-good t = omega arith in rw (sized s, bad-some 0 t h, here)
 
   too-many : Sized → leading is-good t ≡ length t → Limits.most-instructions < length t
       → Answered (Refused (record { number = 14; place = Limits.most-instructions }))
-  unfolding read-table table-fault table-rule-11 table-rule-13 table-rule-14
+  unfolding read-table table-fault table-rule-11 rule-13 rule-14
   too-many s g h = rw (sized s, bad-none 0 t g, lt-leb (length t) Limits.most-instructions h)
 
-  accepted : Sized → leading is-good t ≡ length t → length t ≤ Limits.most-instructions → Answered (Done (length t))
-  unfolding read-table table-fault table-rule-11 table-rule-13 table-rule-14
+  pub accepted : Sized → leading is-good t ≡ length t → length t ≤ Limits.most-instructions → Answered (Done (length t))
+  unfolding read-table table-fault table-rule-11 rule-13 rule-14
   accepted s g h = rw (sized s, bad-none 0 t g, le-leb (length t) Limits.most-instructions h)
 
   -- `judge` takes these tests in their order

@@ -11,15 +11,17 @@ use lib.ListN.{length, drop, getD, set, length-map, List·getD-map}
 use lib.Seq.{drop-cons, paste, paste-zero, paste-suc, length-paste, take-all}
 use lib.Dec.{leb}
 use borrow.Author.Tests.{leb-true}
+use Rattle.theory.specs.TurnedDown.{entries-fault}
+use Rattle.theory.specs.TurnedDown.{next-byte}
 use Rattle.theory.specs.Limits
-use Rattle.theory.specs.Basics.{or-else}
 use Rattle.theory.specs.Word.{Entry, is-symbol}
-use Rattle.theory.specs.TurnedDown.{word-entries, word-fault, rule-11, rule-12, rule-13, rule-14, entry-fault, first-failing, first-along}
+use Rattle.theory.specs.TurnedDown.{word-entries, word-fault, rule-11, rule-12, rule-13, entry-fault, first-failing, first-along}
 use Rattle.theory.specs.TurnedDown.{done, lent-after}
 use Rattle.theory.proofs.Faults.{none-first, none-second, unless-none, none-refused, and-second}
 use Rattle.theory.proofs.Words.{entry, Formed, formed-of-word}
 use Rattle.word.specs.Scan.{Readable, symbols, item-at, ones-at, hashes-at}
-use Rattle.word.proofs.Runs.{leading-length, failing-some}
+use Rattle.text.proofs.Runs.{leading-length}
+use Rattle.word.proofs.Runs.{failing-some}
 use Rattle.word.proofs.Along.{Along, along-end, entry-here, item-next, kind-of-some}
 
 pub lt-or-le : (a b : ℕ) → (a < b) ⊎ (b ≤ a)
@@ -60,12 +62,12 @@ module _ (w : List ℕ) (fine : word-fault w ≡ none) where
   unfolding word-fault
   passed-12 = none-first (rule-12 w) _ (none-second (rule-11 w) _ fine)
 
-  pub passed-13 : first-along entry-fault 0 (word-entries w) ≡ none
+  pub passed-13 : first-along next-byte entry-fault 0 (word-entries w) ≡ none
   unfolding word-fault rule-13
   passed-13 =
-      let rest : or-else (rule-13 (word-entries w)) (rule-14 (word-entries w)) ≡ none = none-second (rule-12 w) _ (none-second (rule-11
+      let rest : entries-fault (word-entries w) ≡ none = none-second (rule-12 w) _ (none-second (rule-11
       w) _ fine) in
-      none-refused _ 13 (none-first (rule-13 (word-entries w)) (rule-14 (word-entries w)) rest)
+      none-refused _ 13 (none-first (rule-13 next-byte entry-fault (word-entries w)) _ rest)
 
   known : symbols w ≡ length w
   unfolding rule-12

@@ -61,7 +61,7 @@ module _ (t : List Entry) where
 
 -- What was gathered, written
 
-zipped-self : (t : List Entry) → zipped (kinds-of t) (operands-of t) ≡ t
+pub zipped-self : (t : List Entry) → zipped (kinds-of t) (operands-of t) ≡ t
 unfolding zipped
 zipped-self [] = refl
 zipped-self (e ∷ t) = ap {B = List Entry} (λ l. e ∷ l) (zipped-self t)

@@ -11,8 +11,9 @@ use borrow.Author.Tests.{ne-eqb, eqb-true}
 use Rattle.theory.specs.Word.{Symbol, one, hash, symbol-of, is-symbol, Entry, entries, one-before, hash-before}
 use Rattle.theory.specs.TurnedDown.{word-entries}
 use Rattle.theory.proofs.Words.{entry, entries-first}
-use Rattle.word.specs.Scan.{is-byte, run, symbols, ones-at, hashes-at}
-use Rattle.word.proofs.Runs.{leading-pass, leading-fail, leading-nil, leading-length}
+use Rattle.text.specs.Runs.{is-byte, run}
+use Rattle.word.specs.Scan.{symbols, ones-at, hashes-at}
+use Rattle.text.proofs.Runs.{leading-pass, leading-fail, leading-nil, leading-within}
 
 -- Of symbols
 
@@ -128,9 +129,7 @@ module _ (w : List ℕ) (k : Known w) (at : ℕ) where
 -- The 1s from a place on, and the # behind them, stand in the word
 module _ (w : List ℕ) (at : ℕ) (h : at ≤ length w) where
   pub ones-within : at + ones-at w at ≤ length w
-  ones-within = omega (arith, length-drop at w, leading-length (is-byte 49) (drop at w))
+  ones-within = leading-within (is-byte 49) w at h
 
   pub next-within : at + ones-at w at + hashes-at w at ≤ length w
-  next-within =
-      let m : ℕ = at + ones-at w at in
-      omega (arith, ones-within, length-drop m w, leading-length (is-byte 35) (drop m w))
+  next-within = leading-within (is-byte 35) w (at + ones-at w at) ones-within

@@ -11,10 +11,10 @@ use borrow.Author.Tests.{le-leb, lt-leb}
 use Rattle.theory.specs.Limits
 use Rattle.theory.specs.Word.{is-symbol}
 use Rattle.theory.specs.Machines.{is-limited}
-use Rattle.theory.specs.TurnedDown.{lent-after, read-word, word-entries, word-fault, rule-11, rule-12, rule-19}
+use Rattle.theory.specs.TurnedDown.{lent-after, read-word, word-entries, word-fault, rule-11, rule-12, rule-19, read-word-into}
 use Rattle.theory.specs.declared.Refusal.{Refusal}
 use Rattle.word.specs.declared.answers.Read.the-variants.{Done, Refused}
-use Rattle.word.specs.Answers.{read-answer, read-into, Reads}
+use Rattle.word.specs.Answers.{read-answer, Reads}
 use Rattle.word.specs.Scan.{symbols, scan-answer, Filled}
 use Rattle.word.proofs.Runs.{failing-some, failing-none}
 use Rattle.word.proofs.Items.{Known}
@@ -54,7 +54,7 @@ module _ (w : List ℕ) where
 
   module _ (kinds operands : List ℕ) where
     pub read-refused : (r : Refusal) → Refused r ≡ read-answer (read-word w) → Reads w kinds operands (Refused r) kinds operands
-    unfolding read-word read-into lent-after
+    unfolding read-word read-word-into lent-after
     read-refused r h = go (word-fault w) refl
       where
         go : (o : Option Refusal) → word-fault w ≡ o → Reads w kinds operands (Refused r) kinds operands
@@ -64,12 +64,12 @@ module _ (w : List ℕ) where
     module _ (fine : word-fault w ≡ none) where
       pub kinds-short : length kinds < length (word-entries w) → Reads w kinds operands (Refused (record { number = 19; place = 0 }))
           kinds operands
-      unfolding read-word read-into rule-19 lent-after
+      unfolding read-word read-word-into rule-19 lent-after
       kinds-short h = let n : _ = lt-leb (length (word-entries w)) (length kinds) h in (rw (fine, n), rw (fine, n), rw (fine, n))
 
       pub operands-short : length (word-entries w) ≤ length kinds → length operands < length (word-entries w)
           → Reads w kinds operands (Refused (record { number = 19; place = 0 })) kinds operands
-      unfolding read-word read-into rule-19 lent-after
+      unfolding read-word read-word-into rule-19 lent-after
       operands-short g h =
           let m : _ = le-leb (length (word-entries w)) (length kinds) g in
           let n : _ = lt-leb (length (word-entries w)) (length operands) h in
@@ -78,7 +78,7 @@ module _ (w : List ℕ) where
       pub both-fit : length (word-entries w) ≤ length kinds → length (word-entries w) ≤ length operands
           → (n : ℕ) → n ≡ length (word-entries w) → (kinds′ operands′ : List ℕ) → Filled w kinds operands kinds′ operands′
           → Reads w kinds operands (Done n) kinds′ operands′
-      unfolding read-word read-into rule-19
+      unfolding read-word read-word-into rule-19
       both-fit g h n e kinds′ operands′ f =
           let m : _ = le-leb (length (word-entries w)) (length kinds) g in
           let l : _ = le-leb (length (word-entries w)) (length operands) h in

@@ -4,6 +4,7 @@ pub mod Along
 pub mod Judged
 pub mod Fills
 pub mod Counts
+pub mod Passing
 pub mod Spelling
 pub mod Stores
 pub mod Tallies

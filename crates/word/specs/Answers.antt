@@ -4,10 +4,10 @@ use mathlib.Core.Path.{_≡_}
 use mathlib.Core.List.{List, [], _∷_, map}
 use Prim.Native.Nat.{ℕ}
 use lib.ListN.{length, replicate}
+use Rattle.theory.specs.TurnedDown.{read-word-into, write-word-into}
 use Rattle.theory.specs.Limits
-use Rattle.theory.specs.Basics.{or-else}
-use Rattle.theory.specs.Word.{Entry, spell-entries, bytes-of}
-use Rattle.theory.specs.TurnedDown.{Answer, done, refused, answer, after, mapped, read-word, read-table, rule-19, lend, lent-after}
+use Rattle.theory.specs.Word.{Entry}
+use Rattle.theory.specs.TurnedDown.{Answer, done, refused, answer, mapped, read-word, read-table, lend, lent-after}
 use Rattle.word.specs.declared.answers.Gathered.{Gathered}
 use Rattle.word.specs.declared.answers.Instruction.{Instruction}
 use Rattle.word.specs.declared.answers.Read.{Read}
@@ -54,16 +54,12 @@ abbrev pub written-answer : Answer (List ℕ) → Written
 written-answer (done w) = W.Done (length w)
 written-answer (refused r) = W.Refused r
 
--- A word read into two lent lists of numbers: rules 11 to 14, then 19 for either list
-unfoldable pub read-into : List ℕ → List ℕ → List ℕ → Answer (List Entry)
-read-into kinds operands w = after (read-word w) λ t. answer (or-else (rule-19 kinds t) (rule-19 operands t)) t
-
 -- What is handed back, and the lent lists then
 abbrev pub Reads : (word kinds operands : List ℕ) → Read → (kinds′ operands′ : List ℕ) → Type 0
 Reads word kinds operands r kinds′ operands′ =
-    (r ≡ read-answer (read-into kinds operands word))
-    × (kinds′ ≡ lent-after kinds (mapped kinds-of (read-into kinds operands word)))
-    × (operands′ ≡ lent-after operands (mapped operands-of (read-into kinds operands word)))
+    (r ≡ read-answer (read-word-into kinds operands word))
+    × (kinds′ ≡ lent-after kinds (mapped kinds-of (read-word-into kinds operands word)))
+    × (operands′ ≡ lent-after operands (mapped operands-of (read-word-into kinds operands word)))
 
 -- A word read into a lent table of records: rules 11 to 14, then 19
 abbrev pub ReadsTable : (word : List ℕ) (table : List Instruction) → Read → (table′ : List Instruction) → Type 0
@@ -71,11 +67,8 @@ ReadsTable word table r table′ =
     (r ≡ read-answer (lend table (read-word word))) × (table′ ≡ lent-after table (mapped records-of (lend table (read-word word))))
 
 -- A table written as a word into a lent list of bytes: rules 11, 13 and 14 as for tables, then 19
-unfoldable pub write-into : List ℕ → List Entry → Answer (List ℕ)
-write-into word t = lend word (mapped (λ t′. bytes-of (spell-entries t′)) (read-table t))
-
 abbrev pub WritesInto : (table : List Entry) (word : List ℕ) → Written → (word′ : List ℕ) → Type 0
-WritesInto table word r word′ = (r ≡ written-answer (write-into word table)) × (word′ ≡ lent-after word (write-into word table))
+WritesInto table word r word′ = (r ≡ written-answer (write-word-into word table)) × (word′ ≡ lent-after word (write-word-into word table))
 
 -- A table as numbers, with room for as many instructions as a word may have: rules 11, 13 and 14 as for tables
 abbrev pub no-numbers : List ℕ

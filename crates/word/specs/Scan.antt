@@ -1,30 +1,19 @@
--- What the functions inside this crate hand back: runs of a byte, and the items of a word.
+-- What the functions inside this crate hand back: the symbols at the front of a word, and its items.
 use mathlib.Core.Path.{_≡_}
-use mathlib.Core.Bool.{Bool, cond}
+use mathlib.Core.Bool.{cond}
 use mathlib.Core.Option.{none}
-use mathlib.Core.List.{List, [], _∷_}
-use Prim.Native.Nat.{ℕ, suc, _+_, _≤_}
+use mathlib.Core.List.{List}
+use Prim.Native.Nat.{ℕ, _+_, _≤_}
 use lib.ListN.{length, drop}
 use lib.Dec.{eqb}
 use Rattle.theory.specs.Limits
-use Rattle.theory.specs.Basics.{or-else}
 use Rattle.theory.specs.Word.{is-symbol}
 use Rattle.theory.specs.Machines.{is-limited}
-use Rattle.theory.specs.TurnedDown.{done, answer, word-entries, word-fault, rule-13, rule-14, lent-after}
+use Rattle.theory.specs.TurnedDown.{done, answer, word-entries, entries-fault, word-fault, lent-after}
+use Rattle.text.specs.Runs.{leading, run}
 use Rattle.word.specs.declared.reading.Item.{Item}
 use Rattle.word.specs.declared.answers.Read.{Read}
 use Rattle.word.specs.Answers.{kinds-of, operands-of, read-answer}
-
--- How many stand at the front that pass the test
-unfoldable pub leading : {A : Type 0} → (A → Bool) → List A → ℕ
-leading f [] = 0
-leading f (b ∷ l) = cond (f b) (suc (leading f l)) 0
-
-abbrev pub is-byte : ℕ → ℕ → Bool
-is-byte byte b = eqb b byte
-
-abbrev pub run : ℕ → List ℕ → ℕ
-run byte = leading (is-byte byte)
 
 abbrev pub symbols : List ℕ → ℕ
 symbols = leading is-symbol
@@ -61,7 +50,7 @@ pub record Readable (w : List ℕ) : Type 0 where
 
 -- Rules 13 and 14
 unfoldable pub scan-answer : List ℕ → Read
-scan-answer w = read-answer (answer (or-else (rule-13 (word-entries w)) (rule-14 (word-entries w))) (word-entries w))
+scan-answer w = read-answer (answer (entries-fault (word-entries w)) (word-entries w))
 
 -- A word that no rule turns down, and lent lists that have room for its instructions
 pub record Fillable (w : List ℕ) (count : ℕ) (kinds operands : List ℕ) : Type 0 where

@@ -1,18 +1,19 @@
 -- What the functions inside this crate count of a table and write of it.
+use mathlib.Core.Path.{_≡_}
 use mathlib.Core.Bool.{Bool, cond, not, _||_}
-use mathlib.Core.List.{List}
-use Prim.Native.Nat.{ℕ, suc, _+_, _≤_, min}
-use lib.ListN.{length, take}
+use mathlib.Core.List.{List, [], _∷_, _++_}
+use Prim.Native.Nat.{ℕ, suc, _+_, _≤_, _<_, min}
+use lib.ListN.{length, getD, replicate}
 use lib.Seq.{sets}
 use lib.Dec.{eqb, ltb}
 use Rattle.theory.specs.Limits
 use Rattle.theory.specs.Word.{Entry, spell-entries, bytes-of}
 use Rattle.theory.specs.Machines.{is-limited}
 use Rattle.theory.specs.TurnedDown.{total}
+use Rattle.text.specs.Runs.{leading}
 use Rattle.word.specs.declared.answers.Read.{Read}
 use Rattle.word.specs.declared.answers.Read.the-variants.{Done, Refused}
 use Rattle.word.specs.declared.writing.Tally.{Tally}
-use Rattle.word.specs.Scan.{leading}
 
 -- An entry that rule 13 turns down, and one that it lets pass
 abbrev pub is-bad : Entry → Bool
@@ -42,10 +43,29 @@ judged s =
     (cond (ltb Limits.most-instructions (s .count)) (Refused (record { number = 14; place = Limits.most-instructions }))
     (Done (s .count)))))
 
--- A word with room for the first entries of a table, and with those entries spelled from its start on
-pub record Spellable (t : List Entry) (count : ℕ) (word : List ℕ) : Type 0 where
-  pub within : count ≤ length t
-  pub room : total t ≤ length word
+-- A kind that rule 13 lets pass
+pub record IsKind (kind : ℕ) : Type 0 where
+  pub first : 1 ≤ kind
+  pub last : kind ≤ 5
 
-unfoldable pub spelt : List Entry → ℕ → List ℕ → List ℕ
-spelt t count word = sets word 0 (bytes-of (spell-entries (take count t)))
+abbrev pub sum : List ℕ → ℕ
+sum [] = 0
+sum (n ∷ ns) = n + sum ns
+
+-- A table whose entries are all good, of so many symbols at most
+pub record AllGood (most : ℕ) (t : List Entry) : Type 0 where
+  pub each : leading is-good t ≡ length t
+  pub symbols : total t ≤ most
+
+-- Operands that rule 13 lets pass, and their sum
+pub record Summed (operands : List ℕ) (total : ℕ) : Type 0 where
+  pub each : (j : ℕ) → j < length operands → 1 ≤ getD operands j 0
+  pub size : sum operands ≡ total
+
+-- The bytes of an entry: its operand times 1, and then its kind times #
+abbrev pub entry-bytes : Entry → List ℕ
+entry-bytes e = replicate (e .operand) 49 ++ replicate (e .kind) 35
+
+-- A word with the entries of a table spelled from its start on
+unfoldable pub spelt : List Entry → List ℕ → List ℕ
+spelt t word = sets word 0 (bytes-of (spell-entries t))

@@ -31,8 +31,8 @@ pub enum Written {
 // A table of records as numbers: its kinds and operands with 0s after them, and the number of its instructions; 0s alone, and why, where
 // it is turned down.
 pub struct Gathered {
-    pub kinds: [u8; 8192],
-    pub operands: [u32; 8192],
+    pub kinds: [u8; Instruction::INSTRUCTIONS],
+    pub operands: [u32; Instruction::INSTRUCTIONS],
     pub answer: Read,
 }
 

@@ -1,34 +1,20 @@
 // Reading a word: rules 11 to 14 in order, with byte offsets as places, and then 19. Nothing is written before the count is known.
 ghost use mathlib.Core.Path.{_≡_};
 ghost use Prim.Native.Nat.{_+_, _≤_};
-ghost use lib.ListN.{length, drop};
+ghost use lib.ListN.{length};
 ghost use Rattle.theory.specs.TurnedDown.{read-word};
 ghost use Rattle.word.specs.Answers.{read-answer, Reads};
-ghost use Rattle.word.specs.Scan.{run, symbols, kind-number, item-at, fault-place, Readable, scan-answer, Fillable, Filled};
+ghost use Rattle.word.specs.Scan.{symbols, kind-number, item-at, fault-place, Readable, scan-answer, Fillable, Filled};
 use crate::answers::Instruction;
 use crate::answers::Read;
 use crate::answers::refused;
+use text::read::run_end;
 
 // An instruction of a word, and where the next one starts. Kind 0 stands for a number of # that is none of 1 to 5.
 pub struct Item {
     pub kind: u8,
     pub operand: u32,
     pub next: usize,
-}
-
-// Where the run of `byte` that starts at `at` ends.
-fn run_end(word: &[u8], at: usize, byte: u8) -> usize
-    requires { ⌜ at ≤ length (now word) ⌝ }
-    ensures { λ r. ⌜ r ≡ at + run byte (drop at (now (word .entry))) ⌝ }
-{
-    let mut i = at;
-    while i < word.len() {
-        if word[i] != byte {
-            return i;
-        }
-        i += 1;
-    }
-    i
 }
 
 // The place of the first byte that is neither 1 nor #, or the length.
@@ -38,7 +24,7 @@ fn symbols_end(word: &[u8]) -> usize
     let mut i: usize = 0;
     while i < word.len() {
         let b = word[i];
-        if b != 49 && b != 35 {
+        if b != b'1' && b != b'#' {
             return i;
         }
         i += 1;
@@ -65,8 +51,8 @@ pub fn item_at(word: &[u8], at: usize) -> Item
     requires { ⌜ (at ≤ length (now word)) × (length (now word) ≤ 600000) ⌝ }
     ensures { λ r. ⌜ r ≡ item-at (now (word .entry)) at ⌝ }
 {
-    let middle = run_end(word, at, 49);
-    let next = run_end(word, middle, 35);
+    let middle = run_end(word, at, b'1');
+    let next = run_end(word, middle, b'#');
     Item {
         kind: kind_of(next - middle),
         operand: (middle - at) as u32,

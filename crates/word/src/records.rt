@@ -21,8 +21,8 @@ use crate::writing::write;
 
 // The kinds and operands of a table's first entries, and 0s after them.
 pub struct Numbers {
-    pub kinds: [u8; 8192],
-    pub operands: [u32; 8192],
+    pub kinds: [u8; Instruction::INSTRUCTIONS],
+    pub operands: [u32; Instruction::INSTRUCTIONS],
 }
 
 // Reading
@@ -111,8 +111,8 @@ fn copied(table: &[Instruction], count: usize) -> Numbers
     requires { ⌜ (count ≤ length (now table)) × (count ≤ 8192) ⌝ }
     ensures { λ r. ⌜ r ≡ numbers-of (entries-of (now (table .entry))) count ⌝ }
 {
-    let mut kinds = [0u8; 8192];
-    let mut operands = [0u32; 8192];
+    let mut kinds = [0u8; Instruction::INSTRUCTIONS];
+    let mut operands = [0u32; Instruction::INSTRUCTIONS];
     let mut i: usize = 0;
     while i < count {
         let e = table[i];

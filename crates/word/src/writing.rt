@@ -1,16 +1,15 @@
-// Checking a table of numbers and writing it as a word: rules 11, 13 and 14 as for tables, with entries as places, and then 19.
+// What is counted of a table of numbers, and writing it as a word: rules 11, 13 and 14 as for tables, with entries as places, and then 19.
 ghost use mathlib.Core.Path.{_≡_};
-ghost use mathlib.Core.List.{_++_};
-ghost use Prim.Native.Nat.{_+_, _≤_, _<_, min, max};
-ghost use lib.ListN.{length, getD, replicate};
-ghost use lib.Seq.{sets};
-ghost use Rattle.theory.specs.TurnedDown.{read-table};
-ghost use Rattle.word.specs.Answers.{zipped, read-answer, WritesInto};
-ghost use Rattle.word.specs.Tables.{is-good, noted, tally-of, judged, Spellable, spelt};
+ghost use Prim.Native.Nat.{_≤_, _<_, min, max};
+ghost use lib.ListN.{getD};
+ghost use Rattle.text.specs.Puts.{Put};
+ghost use Rattle.word.specs.Answers.{zipped, WritesInto};
+ghost use Rattle.word.specs.Tables.{is-good, noted, tally-of, judged, entry-bytes, spelt};
 use crate::answers::Instruction;
 use crate::answers::Read;
 use crate::answers::Written;
 use crate::answers::refused;
+use text::put::put_runs;
 use theory::Refusal;
 
 // What is counted of a table's first entries: their symbols, or one more than a word may have; how many are good before the first bad
@@ -32,7 +31,7 @@ fn capped(sum: usize) -> usize
 }
 
 // An entry that rule 13 lets pass.
-fn is_instruction(kind: u8, operand: u32) -> bool
+pub fn is_instruction(kind: u8, operand: u32) -> bool
     ensures { λ r. ⌜ r ≡ is-good (record { kind = kind; operand = operand }) ⌝ }
 {
     if kind == 0 {
@@ -105,8 +104,8 @@ fn longer(a: usize, b: usize) -> usize
     if a < b { b } else { a }
 }
 
-// The tally of a table of numbers.
-fn counted(kinds: &[u8], operands: &[u32]) -> Tally
+// The tally of a table of numbers. A number that is missing counts as 0.
+pub fn counted(kinds: &[u8], operands: &[u32]) -> Tally
     ensures { λ r. ⌜ r ≡ tally-of (zipped (now (kinds .entry)) (now (operands .entry))) ⌝ }
 {
     let count = longer(kinds.len(), operands.len());
@@ -123,44 +122,18 @@ fn counted(kinds: &[u8], operands: &[u32]) -> Tally
     t
 }
 
-// A table of numbers: rules 11, 13 and 14. A number that is missing counts as 0.
-pub fn check(kinds: &[u8], operands: &[u32]) -> Read
-    ensures { λ r. ⌜ r ≡ read-answer (read-table (zipped (now (kinds .entry)) (now (operands .entry)))) ⌝ }
-{
-    judge(counted(kinds, operands))
-}
-
-// Writes `n` times `byte` from `at` on.
-fn put_run(word: &mut [u8], at: usize, n: usize, byte: u8)
-    requires { ⌜ at + n ≤ length (now word) ⌝ }
-    ensures { λ _. ⌜ now (word .exit) ≡ sets (now (word .entry)) at (replicate n byte) ⌝ }
-{
-    let mut i: usize = 0;
-    while i < n {
-        word[at + i] = byte;
-        i += 1;
-    }
-}
-
-// Writes an entry at `at`, and says where it ends.
+// One entry, its operand times 1 and then its kind times #, put at a place. What it returns is the place after it.
 fn put_entry(word: &mut [u8], at: usize, kind: u8, operand: u32) -> usize
-    requires { ⌜ at + (operand + kind) ≤ length (now word) ⌝ }
-    ensures ends { λ r. ⌜ r ≡ at + (operand + kind) ⌝ }
-    ensures writes { λ _. ⌜ now (word .exit) ≡ sets (now (word .entry)) at (replicate operand 49 ++ replicate kind 35) ⌝ }
+    ensures { λ r. ⌜ Put (entry-bytes (record { kind = kind; operand = operand })) at (now (word .entry)) (now (word .exit)) r ⌝ }
 {
-    let ones = operand as usize;
-    let hashes = kind as usize;
-    let middle = at + ones;
-    put_run(&mut *word, at, ones, 49);
-    put_run(&mut *word, middle, hashes, 35);
-    middle + hashes
+    put_runs(word, at, operand as usize, b'1', kind as usize, b'#')
 }
 
-// Writes the first `count` entries of a table into a word that has room for them.
-fn spell(kinds: &[u8], operands: &[u32], count: usize, word: &mut [u8])
-    requires { ⌜ Spellable (zipped (now kinds) (now operands)) count (now word) ⌝ }
-    ensures { λ _. ⌜ now (word .exit) ≡ spelt (zipped (now (kinds .entry)) (now (operands .entry))) count (now (word .entry)) ⌝ }
+// All entries of a table, put at the front of a word.
+fn spell(kinds: &[u8], operands: &[u32], word: &mut [u8])
+    ensures { λ _. ⌜ now (word .exit) ≡ spelt (zipped (now (kinds .entry)) (now (operands .entry))) (now (word .entry)) ⌝ }
 {
+    let count = longer(kinds.len(), operands.len());
     let mut at: usize = 0;
     let mut i: usize = 0;
     while i < count {
@@ -176,14 +149,14 @@ pub fn write(kinds: &[u8], operands: &[u32], word: &mut [u8]) -> Written
     let t = counted(kinds, operands);
     let size = t.size;
     match judge(t) {
-        Read::Done(count) => {
+        Read::Done(_) => {
             if word.len() < size {
                 return Written::Refused(Refusal {
                     number: 19,
                     place: 0,
                 });
             }
-            spell(kinds, operands, count, word);
+            spell(kinds, operands, word);
             Written::Done(size)
         }
         Read::Refused(r) => Written::Refused(r),

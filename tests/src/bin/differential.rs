@@ -1,5 +1,6 @@
-//! The library and the run tool against the twin: `differential [seed] [count]`. First the cases at the limits, then so many of every kind by chance; the same
-//! seed gives the same cases. Last it says how often each answer was given, and fails if one that a call has came seldom. RUN_TOOL names the run tool.
+//! The library and the run tool against the twin: `differential [seed] [count]`. First the cases at the limits, then so many of every
+//! kind by chance; the same seed gives the same cases. Last it says how often each answer was given, and fails if one that a call has
+//! came seldom. RUN_TOOL names the run tool.
 
 use std::collections::BTreeMap;
 use std::env;
@@ -18,7 +19,7 @@ use twin::{edges, source, Answer, End};
 const LONGEST: u32 = 20_000;
 
 /// The answers of each call, every one of which must come `LEAST` times.
-const ANSWERS: [(&str, &str); 10] = [
+const ANSWERS: [(&str, &str); 11] = [
     ("read a text", "done 1 2 3 4 5 6 7 8 19"),
     ("write a list", "done 3 4 5 6 7 8 19"),
     ("translate a text", "done 1 2 3 4 5 6 7 8 19"),
@@ -28,6 +29,7 @@ const ANSWERS: [(&str, &str); 10] = [
     ("read a word", "done 11 12 13 14 19"),
     ("write a word", "done 11 13 14 19"),
     ("run a word", "halted strayed spent full 10 11 12 13 14 15"),
+    ("run a table", "halted strayed spent full 10 11 13 14 15"),
     ("the run tool", "done 1 2 3 4 5 6 7 8 16 17 18 19"),
 ];
 const LEAST: u64 = 5;
@@ -40,7 +42,8 @@ struct Tally {
 }
 
 impl Tally {
-    /// Holds the library's outcome against the twin's; where they differ, the smallest such case that is found is shown, and that is the end.
+    /// Holds the library's outcome against the twin's; where they differ, the smallest such case that is found is shown, and that is the
+    /// end.
     fn hold(&mut self, case: Case) {
         let (twin, library) = (case.twin(), case.library(&self.tool));
         if twin != library {
@@ -100,7 +103,20 @@ fn program_edges(tally: &mut Tally, program: &Program) {
     tally.hold(Case::RunSource { program: program.clone(), state, budget: 100 });
 }
 
-/// A sample program from every state at a limit; its source and its word with every budget up to past the end, and every count of steps near the largest.
+/// Kinds and operands of a table.
+fn numbers(table: &[Instruction]) -> (Vec<u8>, Vec<u32>) {
+    (table.iter().map(|i| i.kind).collect(), table.iter().map(|i| i.operand).collect())
+}
+
+/// A run of instructions, as a word and as a table.
+fn run_both(tally: &mut Tally, table: &[Instruction], machine: &Machine, budget: u32) {
+    let (kinds, operands) = numbers(table);
+    tally.hold(Case::RunWord { word: spell(table), machine: machine.clone(), budget });
+    tally.hold(Case::RunTable { kinds, operands, machine: machine.clone(), budget });
+}
+
+/// A sample program from every state at a limit; its source and its word with every budget up to past the end, and every count of steps
+/// near the largest.
 fn sample_edges(tally: &mut Tally, text: &[u8], start: &[u32]) {
     let commands = read(text).expect("a sample is accepted");
     for state in edges::states(&commands, start) {
@@ -119,13 +135,13 @@ fn sample_edges(tally: &mut Tally, text: &[u8], start: &[u32]) {
     }
     for n in 0..=word_ends + 2 {
         for (steps, budget) in [(0, n), (u32::MAX - n, 200), (u32::MAX - n, word_ends), (u32::MAX - word_ends, n)] {
-            tally.hold(Case::RunWord { word: spell(&table), machine: Machine { steps, ..machine.clone() }, budget });
+            run_both(tally, &table, &Machine { steps, ..machine.clone() }, budget);
         }
     }
     let last = table.len() as i32;
     for place in [i32::MIN, i32::MIN + 1, -1, last + 2, i32::MAX - 1, i32::MAX].into_iter().chain(0..=last + 1) {
         for budget in [0, 1, 2, 200] {
-            tally.hold(Case::RunWord { word: spell(&table), machine: Machine { place, ..machine.clone() }, budget });
+            run_both(tally, &table, &Machine { place, ..machine.clone() }, budget);
         }
     }
 }
@@ -155,10 +171,17 @@ fn at_limits(tally: &mut Tally) {
         for lent in [0, 83, 599_999, 600_000] {
             tally.hold(Case::WriteWord { kinds: kinds.clone(), operands: operands.clone(), lent });
         }
+        for (registers, budget) in [(64, 99), (1, 99), (63, 0)] {
+            let machine = Machine::fresh(registers, 2, &[b"#".to_vec()]);
+            tally.hold(Case::RunTable { kinds: kinds.clone(), operands: operands.clone(), machine, budget });
+        }
     }
     for machine in edges::machines() {
         for word in [&b"1#"[..], b"1###", b"111#####1##11#", b"", b"1111#"] {
             tally.hold(Case::RunWord { word: word.to_vec(), machine: machine.clone(), budget: 9 });
+        }
+        for (kinds, operands) in [(&[1][..], &[1][..]), (&[3], &[1]), (&[5, 2, 1], &[3, 1, 2]), (&[], &[]), (&[1], &[4]), (&[0], &[1])] {
+            tally.hold(Case::RunTable { kinds: kinds.to_vec(), operands: operands.to_vec(), machine: machine.clone(), budget: 9 });
         }
     }
     for sheet in edges::sheets() {
@@ -205,10 +228,10 @@ fn source_case(random: &mut Random, program: Program) -> Case {
     Case::RunSource { program, state: state.numbers().to_vec(), budget }
 }
 
-/// The same for a word.
-fn word_case(random: &mut Random, word: Vec<u8>, mut machine: Machine) -> Case {
+/// The same for a word: the machine then, and a budget.
+fn word_start(random: &mut Random, accepted: Option<Vec<Instruction>>, mut machine: Machine) -> (Machine, u32) {
     let mut budget = random.below(3000) as u32;
-    if let Ok(table) = machine.accept(&word) {
+    if let Some(table) = accepted {
         let (end, ended) = machine.clone().run(&table, LONGEST);
         let done = if random.once_in(2) { random.below(ended as usize + 1) as u32 } else { 0 };
         machine.run(&table, done);
@@ -218,24 +241,44 @@ fn word_case(random: &mut Random, word: Vec<u8>, mut machine: Machine) -> Case {
         }
         machine.steps = random.count(ended - done);
     }
+    (machine, budget)
+}
+
+fn word_case(random: &mut Random, word: Vec<u8>, machine: Machine) -> Case {
+    let (machine, budget) = word_start(random, machine.accept(&word).ok(), machine);
     Case::RunWord { word, machine, budget }
 }
 
-fn table_case(random: &mut Random) -> Case {
-    let mut table = random.table(8);
+/// A table by chance, faulty or not, one of whose lists may be cut short; and the length of its word.
+fn table_by_chance(random: &mut Random, registers: usize) -> (Vec<u8>, Vec<u32>, usize) {
+    let mut table = random.table(registers);
     if random.once_in(3) {
         let at = random.below(table.len());
         table[at] = Instruction { kind: random.pick(&[0, 5, 6, 255]), operand: random.pick(&[0, 1, 599_995, 600_000, u32::MAX]) };
     }
     let length = if word::check_table(&table).is_ok() { spell(&table).len() } else { 9 };
-    let mut kinds: Vec<_> = table.iter().map(|i| i.kind).collect();
-    let mut operands: Vec<_> = table.iter().map(|i| i.operand).collect();
+    let (mut kinds, mut operands) = numbers(&table);
     match random.below(12) {
         0 => kinds.truncate(random.below(table.len())),
         1 => operands.truncate(random.below(table.len())),
         _ => {}
     }
+    (kinds, operands, length)
+}
+
+fn written_case(random: &mut Random) -> Case {
+    let (kinds, operands, length) = table_by_chance(random, 8);
     Case::WriteWord { kinds, operands, lent: lent(random, length) }
+}
+
+fn table_case(random: &mut Random) -> Case {
+    let machine = random.machine();
+    let named = machine.registers + usize::from(random.once_in(6));
+    let (kinds, operands, _) = table_by_chance(random, named);
+    let table: Vec<_> = kinds.iter().zip(&operands).map(|(&kind, &operand)| Instruction { kind, operand }).collect();
+    let accepted = (kinds.len() == operands.len() && machine.accept_table(&table).is_ok()).then_some(table);
+    let (machine, budget) = word_start(random, accepted, machine);
+    Case::RunTable { kinds, operands, machine, budget }
 }
 
 /// One case of every kind but the run tool's.
@@ -255,6 +298,7 @@ fn by_chance(tally: &mut Tally, random: &mut Random) {
     tally.hold(word_case(random, word, machine));
     let (word, machine) = random.translated();
     tally.hold(word_case(random, word, machine));
+    tally.hold(written_case(random));
     tally.hold(table_case(random));
 }
 

@@ -52,16 +52,16 @@ use Rattle.word.proofs.gather as gather
 use Rattle.word.proofs.gather.Symbol as gather-def
 use Rattle.word.proofs.gather.Symbol.{name as #word·gather}
 use Rattle.word.proofs.gather.Met as gather-thm
-use Rattle.machine.specs.declared.answers.Machine.{Machine}
-use Rattle.machine.specs.declared.answers.Position.{Position}
-use Rattle.machine.specs.declared.answers.Run.{Run}
-use Rattle.machine.specs.Calls.{memory, handed, table-called}
-use Rattle.machine.proofs.answers.Machine as TM
-use Rattle.machine.proofs.answers.Machine.Laws as TM′
-use Rattle.machine.proofs.answers.Position as TP
-use Rattle.machine.proofs.answers.Position.Laws as TP′
-use Rattle.machine.proofs.answers.Run as TR
-use Rattle.machine.proofs.answers.Run.Laws as TR′
+use Rattle.memory.specs.declared.answers.Machine.{Machine}
+use Rattle.memory.specs.declared.answers.Position.{Position}
+use Rattle.memory.specs.declared.answers.Run.{Run}
+use Rattle.memory.specs.Calls.{memory, handed, table-called}
+use Rattle.memory.proofs.answers.Machine as TM
+use Rattle.memory.proofs.answers.Machine.Laws as TM′
+use Rattle.memory.proofs.answers.Position as TP
+use Rattle.memory.proofs.answers.Position.Laws as TP′
+use Rattle.memory.proofs.answers.Run as TR
+use Rattle.memory.proofs.answers.Run.Laws as TR′
 use Rattle.machine.proofs.run_gathered as runs
 use Rattle.machine.proofs.run_gathered.Symbol as run-def
 use Rattle.machine.proofs.run_gathered.Symbol.{name as #machine·run-gathered}

@@ -1,63 +1,80 @@
--- `run_word` meets its contract: what the search for a lacking register found decides.
-use mathlib.Core.Path.{_≡_, sym, _∙_}
-use mathlib.Core.Option.{none, some}
+-- `run_word` meets its contract: what reading the word answers, and then the run of what was read; rule 10 goes before both.
+use mathlib.Core.Path.{refl, sym, ap, _∙_}
+use mathlib.Core.List.{List}
 use native.Mathlib.Omega.{arith}
-use Rattle.theory.proofs.Words.{table-good}
-use Rattle.word.specs.Answers.{zipped}
-use Rattle.machine.specs.Lacking.{first-lacking}
-use Rattle.machine.proofs.Accepted.{all-usable, lacking-below}
-use Rattle.machine.proofs.Answered.{found, found-none, word-lacks, word-passes}
-use Rattle.machine.proofs.Rule15.{zipped-length}
+use lib.Seq.{length-take-le}
+use Rattle.theory.specs.Word.{Entry}
+use Rattle.theory.specs.TurnedDown.{word-entries, for-machine}
+use Rattle.theory.proofs.Words.{good-table}
+use Rattle.memory.specs.Calls.{memory, called}
+use Rattle.machine.specs.ByByte.{word-for}
+use Rattle.machine.proofs.ReadWord.{Got, word-good, got-refused, got-done, word-refused, word-read}
 use borrow.Author.Needs.{needs}
 use Rattle.machine.proofs.run_word.Statement.{statement}
 use Rattle.machine.proofs.run_word.Tie as tie
 
--- what the search found
-lacking-at : (c : tie.After-i)
-    → let a = c .before .before .before .before .before .before .before .args in
-    first-lacking (a .m .registers) (zipped (a .kinds .now) (a .operands .now)) ≡ some (c .i .given .0 .0)
-lacking-at c = found _ (c .i .given .0 .0) (sym (c .i .given .1) ∙ c .before .before .first-lacking .ensures)
+slice-aggregate-read : tie.Need-slice-aggregate-read
+slice-aggregate-read c = search needs
 
-nothing-lacks : (c : tie.After-enum-told)
-    → let a = c .before .before .before .before .before .before .before .args in
-    first-lacking (a .m .registers) (zipped (a .kinds .now) (a .operands .now)) ≡ none
-nothing-lacks c = found-none _ (sym (c .enum-told .given .1) ∙ c .before .before .first-lacking .ensures)
+slice-aggregate-read-2 : tie.Need-slice-aggregate-read-2
+slice-aggregate-read-2 c = search needs
 
-first-lacking-requires : tie.Need-first-lacking-requires
-first-lacking-requires c κs = search needs
+read-requires : tie.Need-read-requires
+read-requires c κs = search needs
 
-enum-known-i : tie.Need-enum-known-i
-enum-known-i c = search needs
+enum-known-count : tie.Need-enum-known-count
+enum-known-count c = search needs
 
-start-of-requires : tie.Need-start-of-requires
-start-of-requires c κs =
-    let a = c .before .before .before .before .before .before .before .before .args in
-    let p = c .before .before .before .before .before .before .before .before .pre in
-    let below = lacking-below (a .m .registers) (a .kinds .now) (a .operands .now) (p .paired) _ (lacking-at (c .before)) in
-    let few = table-good (zipped (a .kinds .now) (a .operands .now)) (p .accepted) .instructions in
-    (p .paired, omega (arith, below), omega (arith, few, zipped-length (a .kinds .now) (a .operands .now) (p .paired)))
+-- what was read
+read : (c : tie.After-count) → let r = c .before .before .before .before .read in
+    Got (c .before .before .before .before .before .before .before .before .before .before .args .word .now) (c .count .given .0 .0)
+    (r .last .1 .0) (r .last .1 .1 .0)
+read c =
+    got-done (c .before .before .before .before .before .before .before .before .before .before .args .word .now) _ _ refl refl
+    (c .before .before .before .before .read .ensures) (c .count .given .0 .0) (c .count .given .1)
+
+array-share-prefix-kinds : tie.Need-array-share-prefix-kinds
+array-share-prefix-kinds c = omega (
+  arith,
+  read (c .before .before .before) .few,
+  c .before .before .before .before .before .before .before .read .kept .1 .0,
+)
+
+slice-aggregate-run-instructions : tie.Need-slice-aggregate-run-instructions
+slice-aggregate-run-instructions c = sym
+    (length-take-le _ _ (omega (
+      arith,
+      read (c .before .before .before .before) .few,
+      c .before .before .before .before .before .before .before .before .read .kept .1 .0,
+    )))
+
+array-share-prefix-operands : tie.Need-array-share-prefix-operands
+array-share-prefix-operands c = omega (
+  arith,
+  read (c .before .before .before .before) .few,
+  c .before .before .before .before .before .before .before .before .read .kept .1 .1 .0,
+)
+
+slice-aggregate-run-instructions-2 : tie.Need-slice-aggregate-run-instructions-2
+slice-aggregate-run-instructions-2 c = sym
+    (length-take-le _ _ (omega (
+      arith,
+      read (c .before .before .before .before .before) .few,
+      c .before .before .before .before .before .before .before .before .before .read .kept .1 .1 .0,
+    )))
+
+run-instructions-requires : tie.Need-run-instructions-requires
+run-instructions-requires c κs =
+    let w = c .before .before .before .before .before .before .before .before .before .before .before .before .before .before .before
+    .args .word .now in
+    let got = read (c .before .before .before .before .before) in
+    rw (got .table) (good-table (word-entries w) (word-good w (got .passes)))
+
+enum-known-r : tie.Need-enum-known-r
+enum-known-r c = search needs
 
 turned-down-requires : tie.Need-turned-down-requires
 turned-down-requires c κs = search needs
-
-enum-told : tie.Need-enum-told
-enum-told c = search needs
-
-run-numbers-requires : tie.Need-run-numbers-requires
-run-numbers-requires c κs =
-    let a = c .before .before .before .before .before .before .before .before .before .args in
-    let p = c .before .before .before .before .before .before .before .before .before .pre in
-    (p .good, all-usable (a .m .registers) (a .kinds .now) (a .operands .now) (p .paired) (p .accepted) (nothing-lacks (c .before .before)))
-
-returns : tie.Need-returns
-returns c =
-    let a = c .before .before .before .before .before .before .before .before .before .before .args in
-    rw (
-      c .turned-down .ensures,
-      c .before .start-of .ensures,
-      word-lacks (a .m .registers)
-          (zipped (a .kinds .now) (a .operands .now)) _ (lacking-at (c .before .before .before)),
-    )
 
 same-length : tie.Need-same-length
 same-length c = search needs
@@ -65,23 +82,48 @@ same-length c = search needs
 same-length-2 : tie.Need-same-length-2
 same-length-2 c = search needs
 
+returns : tie.Need-returns
+returns c =
+    let a = c .before .before .before .before .before .before .before .before .before .before .before .before .before .before .before
+    .before .before .before .before .before .args in
+    let m = memory (a .m) (a .store .now) (a .lengths .now) in
+    let got = read (c .before .before .before .before .before .before .before .before .before .before) in
+    c .before .before .before .before .run-instructions .ensures
+    ∙ ap (λ (t : List Entry). called m (a .at) (a .budget) (for-machine m (word-for (a .m .registers) t))) (got .table)
+    ∙ sym (word-read m (a .at) (a .budget) (a .word .now) (got .passes))
+
+same-length-3 : tie.Need-same-length-3
+same-length-3 c = search needs
+
+same-length-4 : tie.Need-same-length-4
+same-length-4 c = search needs
+
 returns-2 : tie.Need-returns-2
 returns-2 c =
     let a = c .before .before .before .before .before .before .before .before .before .before .before .before .before .before .args in
-    rw (word-passes (a .m .registers) (zipped (a .kinds .now) (a .operands .now))
-    (nothing-lacks (c .before .before .before .before .before .before .before))) (c .before .before .before .before .run-numbers .ensures)
+    let m = memory (a .m) (a .store .now) (a .lengths .now) in
+    let fault = got-refused (a .word .now) _ _ refl refl (c .before .before .before .before .before .before .before .before .read
+    .ensures) _ (c .before .before .before .before .r .given .1) in
+    rw (c .turned-down .ensures) (sym (word-refused m (a .at) (a .budget) (a .word .now) _ fault))
 
 pub run-word-spec : {M : Type 1} → statement M
 run-word-spec =
     tie.close
     (tie.spec
-    first-lacking-requires
-    enum-known-i
-    start-of-requires
+    slice-aggregate-read
+    slice-aggregate-read-2
+    read-requires
+    enum-known-count
+    array-share-prefix-kinds
+    slice-aggregate-run-instructions
+    array-share-prefix-operands
+    slice-aggregate-run-instructions-2
+    run-instructions-requires
+    enum-known-r
     turned-down-requires
-    enum-told
-    run-numbers-requires
-    returns
     same-length
     same-length-2
+    returns
+    same-length-3
+    same-length-4
     returns-2)

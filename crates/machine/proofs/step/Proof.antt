@@ -1,6 +1,6 @@
--- `step` meets its contract: a walk of its MIR. The two slices are handed to `run` for good, the record is read through its open
+-- `step` meets its contract: a walk of its MIR. The two slices are handed to `run_word` for good, the record is read through its open
 -- borrow and passed
--- by value, and what `run` returns is taken apart by two calls: the position is stored in the record, and how the run ended is the result.
+-- by value, and what `run_word` returns is taken apart by two calls: the position is stored in the record, and how the run ended is the result.
 use mathlib.Core.Path.{_≡_, refl, sym, subst}
 use mathlib.Core.List.{List, [], _∷_}
 use Prim.Native.Nat.{ℕ}
@@ -48,23 +48,23 @@ use denote.Triple.Table.{entered, cited}
 use denote.Triple.Walked.{says, Stays, stay-ref, gave-slice, stay-dropped, walkOf, AllGo, Silent, goes-ref, goes-gave-slice, goes-dropped}
 use denote.Triple.Walked.{Walks, ends-at, walked, walk-meets}
 use denote.Exit.{yes, Exit, Last, left}
-use Rattle.machine.specs.declared.answers.Machine.{Machine}
-use Rattle.machine.specs.declared.answers.Position.{Position}
-use Rattle.machine.specs.declared.answers.Ended.{Ended}
-use Rattle.machine.specs.declared.answers.Run.{Run}
-use Rattle.machine.specs.Calls.{memory, handed, moved-to, word-called}
-use Rattle.machine.proofs.answers.Machine as TM
-use Rattle.machine.proofs.answers.Machine.Laws as TM′
-use Rattle.machine.proofs.answers.Position as TP
-use Rattle.machine.proofs.answers.Position.Laws as TP′
-use Rattle.machine.proofs.answers.Ended as TE
-use Rattle.machine.proofs.answers.Ended.Laws as TE′
-use Rattle.machine.proofs.answers.Run as TR
-use Rattle.machine.proofs.answers.Run.Laws as TR′
-use Rattle.machine.proofs.run as runs
-use Rattle.machine.proofs.run.Symbol as run-def
-use Rattle.machine.proofs.run.Symbol.{name as #machine·run}
-use Rattle.machine.proofs.run.Met as run-thm
+use Rattle.memory.specs.declared.answers.Machine.{Machine}
+use Rattle.memory.specs.declared.answers.Position.{Position}
+use Rattle.memory.specs.declared.answers.Ended.{Ended}
+use Rattle.memory.specs.declared.answers.Run.{Run}
+use Rattle.memory.specs.Calls.{memory, handed, moved-to, word-called}
+use Rattle.memory.proofs.answers.Machine as TM
+use Rattle.memory.proofs.answers.Machine.Laws as TM′
+use Rattle.memory.proofs.answers.Position as TP
+use Rattle.memory.proofs.answers.Position.Laws as TP′
+use Rattle.memory.proofs.answers.Ended as TE
+use Rattle.memory.proofs.answers.Ended.Laws as TE′
+use Rattle.memory.proofs.answers.Run as TR
+use Rattle.memory.proofs.answers.Run.Laws as TR′
+use Rattle.machine.proofs.run_word as runs
+use Rattle.machine.proofs.run_word.Symbol as run-def
+use Rattle.machine.proofs.run_word.Symbol.{name as #machine·run-word}
+use Rattle.machine.proofs.run_word.Met as run-thm
 use Rattle.machine.proofs.position_of as position-of
 use Rattle.machine.proofs.position_of.Symbol as position-of-def
 use Rattle.machine.proofs.position_of.Symbol.{name as #machine·position-of}
@@ -145,7 +145,7 @@ module _ {M : Type 1} (𝓤 : URA M) (H : Heap 𝓤) (A : Atoms 𝓤) (W : Given
   abbrev Post : Val → SProp 𝓤
   Post = walkOf 𝓤 H A f.ended stayed (f.clauses 𝓤 H A mem run) .post ((κs₄, qs₄, tt, x, at), tt)
 
-  -- the call of `run`
+  -- the call of `run_word`
   abbrev κs₃ : Lfts 3
   κs₃ = (κ₀, (κ₁, (κ₃, tt)))
 
@@ -210,7 +210,7 @@ module _ {M : Type 1} (𝓤 : URA M) (H : Heap 𝓤) (A : Atoms 𝓤) (W : Given
       fjoin ! $
       move ! (2 ∷ 0 ∷ []) $ fjoin ! $ move ! (1 ∷ 0 ∷ []) $ fjoin ! $ nothing ! $ fjoin ! $ frame ! $ done !
 
-  module _ (C : Calls 𝓤 H) (Λ : Loops 𝓤 H) (fm : FmC 𝓤 H (W .laws) C) (known₁ : Triple 𝓤 (C #machine·run) (RunC 𝓤 H A mem run))
+  module _ (C : Calls 𝓤 H) (Λ : Loops 𝓤 H) (fm : FmC 𝓤 H (W .laws) C) (known₁ : Triple 𝓤 (C #machine·run-word) (RunC 𝓤 H A mem run))
       (known₂ : Triple 𝓤 (C #machine·position-of) (PositionOf 𝓤 H A mem run)) (known₃ : Triple 𝓤 (C #machine·ended-of)
       (EndedOf 𝓤 H A mem run)) where
     walk : ent 𝓤 (onEntry 𝓤 H A f.signature κs₄ qs₄ x at) (WpFn 𝓤 H C Λ code.function (vm ∷ v₀ ∷ v₁ ∷ vptr b₂ o₂ ∷ v₃ ∷ []) Post)
@@ -298,7 +298,7 @@ module _ {M : Type 1} (𝓤 : URA M) (H : Heap 𝓤) (A : Atoms 𝓤) (W : Given
         keep ! (0 ∷ 1 ∷ 2 ∷ 4 ∷ 7 ∷ 5 ∷ 3 ∷ []) $ by ! (exits p e y zs e₀ e₁ (met r p e zs g ep ee))))))))))))))))))))))))))))))))
 
 module _ {M : Type 1} (𝓤 : URA M) (H : Heap 𝓤) (A : Atoms 𝓤) (W : Given 𝓤 H A) (mem : Memory → SProp 𝓤) (run : Routine → Fun 𝓤) where
-  step-walks : (C : Calls 𝓤 H) (Λ : Loops 𝓤 H) → FmC 𝓤 H (W .laws) C → Triple 𝓤 (C #machine·run) (RunC 𝓤 H A mem run)
+  step-walks : (C : Calls 𝓤 H) (Λ : Loops 𝓤 H) → FmC 𝓤 H (W .laws) C → Triple 𝓤 (C #machine·run-word) (RunC 𝓤 H A mem run)
       → Triple 𝓤 (C #machine·position-of) (PositionOf 𝓤 H A mem run) → Triple 𝓤 (C #machine·ended-of) (EndedOf 𝓤 H A mem run)
       → Walks 𝓤 H A f.ended stayed (WpFn 𝓤 H C Λ code.function) (f.clauses 𝓤 H A mem run)
   step-walks C Λ fm known₁ known₂ known₃ =
@@ -343,7 +343,7 @@ module _ {M : Type 1} (𝓤 : URA M) (H : Heap 𝓤) (A : Atoms 𝓤) (W : Given
 
 step-meets : {M : Type 1} (𝓤 : URA M) (H : Heap 𝓤) (A : Atoms 𝓤) → Given 𝓤 H A → (mem : Memory → SProp 𝓤) (run : Routine → Fun 𝓤)
     (𝓣 : Tables 𝓤 H)
-    → Triple 𝓤 (𝓣 .C #machine·run) (RunC 𝓤 H A mem run) → Triple 𝓤 (𝓣 .C #machine·position-of) (PositionOf 𝓤 H A mem run)
+    → Triple 𝓤 (𝓣 .C #machine·run-word) (RunC 𝓤 H A mem run) → Triple 𝓤 (𝓣 .C #machine·position-of) (PositionOf 𝓤 H A mem run)
     → Triple 𝓤 (𝓣 .C #machine·ended-of) (EndedOf 𝓤 H A mem run)
     → Meets 𝓤 H A f.signature (WpFn 𝓤 H (𝓣 .C) (𝓣 .Λ) code.function) (f.spec 𝓤 H A mem run)
 step-meets 𝓤 H A W mem run 𝓣 known₁ known₂ known₃ =
@@ -356,7 +356,7 @@ step-spec 𝓤 H 𝓜 𝓖 𝓡 =
     entered 𝓤 H (tripleOf 𝓤 H (𝓖 .A) f.signature (f.spec 𝓤 H (𝓖 .A) (𝓜 .mem) (𝓡 .run)))
     (tables 𝓤 H 𝓜 𝓡 code.env .C) (tables 𝓤 H 𝓜 𝓡 code.env .Λ) #machine·step code.function (code.unfolded 𝓤 H 𝓜 𝓡)
     (step-meets 𝓤 H (𝓖 .A) (givenOf 𝓤 H 𝓜 𝓖) (𝓜 .mem) (𝓡 .run) (tablesOf 𝓤 H 𝓜 (tables 𝓤 H 𝓜 𝓡 code.env))
-    (cited 𝓤 H (RunC 𝓤 H (𝓖 .A) (𝓜 .mem) (𝓡 .run)) 𝓜 𝓡 code.env #machine·run run-def.routine code.calls-machine·run (run-thm.met 𝓤 H 𝓜 𝓖 𝓡))
+    (cited 𝓤 H (RunC 𝓤 H (𝓖 .A) (𝓜 .mem) (𝓡 .run)) 𝓜 𝓡 code.env #machine·run-word run-def.routine code.calls-machine·run-word (run-thm.met 𝓤 H 𝓜 𝓖 𝓡))
     (cited 𝓤 H (PositionOf 𝓤 H (𝓖 .A) (𝓜 .mem)
     (𝓡 .run)) 𝓜 𝓡 code.env #machine·position-of position-of-def.routine code.calls-machine·position-of
     (position-of-thm.met 𝓤 H 𝓜 𝓖 𝓡))

@@ -112,21 +112,7 @@ slice-aggregate-put-bytes c =
     sym (part-length (a .text .now) (a .list .now) (lines .last .1 .0) (lines .result) (lines .ensures) (omega arith) ended (c8 .if3 .left))
 
 put-bytes-requires : tie.Need-put-bytes-requires
-put-bytes-requires c κs =
-    let c8 = c .before .before .before .before .before .before .before .before in
-    let c9 = c8 .before in
-    let c10 = c9 .before in
-    let c12 = c10 .before .before in
-    let c17 = c12 .before .before .before .before .before in
-    let a = c17 .args in
-    let lines = c12 .read-lines in
-    let ended = sym (c10 .is-ended .ensures) ∙ not-false _ (c9 .if2 .left) in
-    omega (
-      arith,
-      part-length (a .text .now) (a .list .now) (lines .last .1 .0) (lines .result) (lines .ensures) (omega arith) ended
-          (c8 .if3 .left),
-      c .before .before .if4 .left,
-    )
+put-bytes-requires c κs = search needs
 
 returns-5 : tie.Need-returns-5
 returns-5 c =

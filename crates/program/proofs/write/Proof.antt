@@ -29,12 +29,8 @@ returns c =
 put-text-requires : tie.Need-put-text-requires
 put-text-requires c κs =
     let c5 = c .before .before .before .before .before in
-    let c8 = c5 .before .before .before in
-    let a = c8 .args in (
-      writes-faultless (a .list .now) (a .text .now) (c5 .check-list .ensures) (c .before .before .before .enum-told .given .1),
-      omega
-          (arith, c .before .before .text-size .ensures, c .before .if1 .left),
-    )
+    let a = c5 .before .before .before .args in
+    writes-faultless (a .list .now) (a .text .now) (c5 .check-list .ensures) (c .before .before .before .enum-told .given .1)
 
 returns-2 : tie.Need-returns-2
 returns-2 c = let a = c .before .before .before .before .before .before .args in

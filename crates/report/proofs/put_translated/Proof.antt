@@ -53,13 +53,13 @@ array-share-prefix-word c =
     let size : length (c .before .before .before .before .translate-list .last .1 .0) ≡ 65536 = c .before .before .before .before .translate-list .kept .1 .0 in
     omega (arith, h .fits, h .counted)
 
-slice-aggregate-put-rows : tie.Need-slice-aggregate-put-rows
-slice-aggregate-put-rows c =
+slice-aggregate-put-word-rows : tie.Need-slice-aggregate-put-word-rows
+slice-aggregate-put-word-rows c =
     let h = held (c .before .before) in
     h .counted ∙ ap length (sym (h .front))
 
-put-rows-requires : tie.Need-put-rows-requires
-put-rows-requires c κs =
+put-word-rows-requires : tie.Need-put-word-rows-requires
+put-word-rows-requires c κs =
     let at-size = c .before .before .before in
     let start = at-size .before .before .before .before .before .before .before .before in
     (record { listed = start .pre .0; translated = held at-size .front }, start .pre .1)
@@ -90,7 +90,7 @@ returns-2 c =
     let list = start .args .list .now in
     let s = start .args .sheet .now in
     let fault = accepted list s (start .args .names) _ (start .pre .0) (start .pre .1) in
-    rw (all-printed (commands list) s fault (held at-size .fits)) (c .before .before .put-rows .ensures)
+    rw (all-printed (commands list) s fault (held at-size .fits)) (c .before .before .put-word-rows .ensures)
 
 pub put-translated-spec : {M : Type 1} → statement M
 put-translated-spec =
@@ -102,8 +102,8 @@ put-translated-spec =
     put-refusal-requires
     enum-known-size
     array-share-prefix-word
-    slice-aggregate-put-rows
-    put-rows-requires
+    slice-aggregate-put-word-rows
+    put-word-rows-requires
     same-length
     returns
     same-length-2

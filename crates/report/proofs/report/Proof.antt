@@ -18,8 +18,8 @@ put-report-requires c κs = search needs
 returns : tie.Need-returns
 returns c =
     let start = c .before .before .before .before .before .before .before .before in
-    let long = c .before .before .put-report .ensures .put .counted in
-    report-refused (start .args .out .now) (start .args .text .now) (start .args .sheet .now) (omega (arith, long))
+    let long = c .before .before .put-report .ensures in
+    report-refused (start .args .out .now) (start .args .text .now) (start .args .sheet .now) (omega (arith, long .put .next, long .few))
 
 put-report-requires-2 : tie.Need-put-report-requires-2
 put-report-requires-2 c κs = search needs
@@ -33,8 +33,8 @@ returns-2 c =
     let put = c .before .before .put-report2 .ensures in
     let room : length (report (start .args .text .now) (start .args .sheet .now)) ≤ length (start .args .out .now)
     = ⊎-elim
-    (λ w. omega (arith, w .2 .ensures .put .counted, w .4 .left))
-    (λ w. omega (arith, put .put .counted, put .few, w .left))
+    (λ w. omega (arith, w .2 .ensures .put .next, w .2 .ensures .few, w .4 .left))
+    (λ w. omega (arith, put .put .next, put .few, w .left))
     (c .before .before .before .before .if1 .came) in
     report-done (start .args .out .now) (start .args .text .now) (start .args .sheet .now) _ _ room (put .put)
 

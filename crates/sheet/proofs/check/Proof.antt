@@ -37,8 +37,8 @@ returns c =
     let unsized : _ = sym (i .ensures) ∙ not-true (i .result) (c .before .if1 .taken) in
     c .refused .ensures ∙ sheet-unsized (a .sheet .now) (a .capacity) (min (a .variables) 32) unsized
 
-end-of-requires : tie.Need-end-of-requires
-end-of-requires c κs = search needs
+find-requires : tie.Need-find-requires
+find-requires c κs = search needs
 
 sub-read-line : tie.Need-sub-read-line
 sub-read-line c = search needs
@@ -46,10 +46,10 @@ sub-read-line c = search needs
 part-read-line-start : tie.Need-part-read-line-start
 part-read-line-start c = search needs
 
-within : (c : tie.After-end-of) → c .end-of .result ≤ length (c .before .before .before .before .args .sheet .now)
+within : (c : tie.After-find) → c .find .result ≤ length (c .before .before .before .before .args .sheet .now)
 within c =
     let s : List ℕ = c .before .before .before .before .args .sheet .now in
-    part-end s 0 0 (c .end-of .result) (omega arith) (c .end-of .ensures)
+    part-end s 0 0 (c .find .result) (omega arith) (c .find .ensures)
 
 part-read-line-end : tie.Need-part-read-line-end
 part-read-line-end c = omega (arith, within c)
@@ -76,7 +76,7 @@ sized c =
 read : (c : tie.After-read-line) → c .read-line .result ≡ line-of (K c) (names (line-at (sheet c) 0))
 read c =
     let e : _ = c .before .before .before in
-    let part : _ = part-line (sheet c) 0 0 (e .end-of .result) (omega arith) (e .end-of .ensures) in
+    let part : _ = part-line (sheet c) 0 0 (e .find .result) (omega arith) (e .find .ensures) in
     let o : Option (List ℕ) = names (line-at (sheet c) 0) in
     rw (part, numbers-names (line-at (sheet c) 0)) at (c .read-line .ensures) ∙ ap (λ k. line-of k o) (c .before .least .ensures)
 
@@ -103,10 +103,10 @@ count c = ap (λ (l : Line). l .count) (read c)
 rest : tie.After-read-line → List Bytes
 rest c = split-lines (drop (after-line (sheet c) 0) (sheet c))
 
-next : (c : tie.After-read-line) → min (c .before .before .before .end-of .result + 1) (length (sheet c)) ≡ after-line (sheet c) 0
+next : (c : tie.After-read-line) → min (c .before .before .before .find .result + 1) (length (sheet c)) ≡ after-line (sheet c) 0
 next c =
     let e : _ = c .before .before .before in
-    part-next (sheet c) 0 0 (e .end-of .result) (omega arith) (e .end-of .ensures)
+    part-next (sheet c) 0 0 (e .find .result) (omega arith) (e .find .ensures)
 
 names-fault-requires : tie.Need-names-fault-requires
 names-fault-requires c κs = low c
@@ -186,7 +186,7 @@ check-spec =
     is-sized-requires
     refused-requires
     returns
-    end-of-requires
+    find-requires
     sub-read-line
     part-read-line-start
     part-read-line-end

@@ -17,20 +17,20 @@ use Rattle.sheet.proofs.scan.Tie as tie
 least-requires : tie.Need-least-requires
 least-requires c κs = search needs
 
-end-of-requires : tie.Need-end-of-requires
-end-of-requires c κs = omega (arith, c .least .ensures)
+find-requires : tie.Need-find-requires
+find-requires c κs = search needs
 
 sub-read-line : tie.Need-sub-read-line
-sub-read-line c = omega (arith, c .end-of .ensures)
+sub-read-line c = omega (arith, c .find .ensures)
 
 part-read-line-start : tie.Need-part-read-line-start
 part-read-line-start c = search needs
 
 -- The part ends within the sheet
-within : (c : tie.After-end-of) → c .end-of .result ≤ length (c .before .before .before .args .sheet .now)
+within : (c : tie.After-find) → c .find .result ≤ length (c .before .before .before .args .sheet .now)
 within c =
     let a : _ = c .before .before .before .args in
-    part-end (a .sheet .now) (a .at) (c .before .least .result) (c .end-of .result) (c .before .least .ensures) (c .end-of .ensures)
+    part-end (a .sheet .now) (a .at) (c .before .least .result) (c .find .result) (c .before .least .ensures) (c .find .ensures)
 
 part-read-line-end : tie.Need-part-read-line-end
 part-read-line-end c = omega (arith, within c)
@@ -59,9 +59,9 @@ returns c =
     let a : _ = e .before .before .before .args in
     let s : List ℕ = a .sheet .now in
     let from : ℕ = e .before .least .result in
-    let end : ℕ = e .end-of .result in
-    let part : _ = part-line s (a .at) from end (e .before .least .ensures) (e .end-of .ensures) in
-    let next : _ = part-next s (a .at) from end (e .before .least .ensures) (e .end-of .ensures) in
+    let end : ℕ = e .find .result in
+    let part : _ = part-line s (a .at) from end (e .before .least .ensures) (e .find .ensures) in
+    let next : _ = part-next s (a .at) from end (e .before .least .ensures) (e .find .ensures) in
     let read : u .read-line .result ≡ line-of (a .capacity + 1) (values (line-at s (a .at))) =
     rw (part, numbers-values (line-at s (a .at))) at (u .read-line .ensures) in
     record {
@@ -75,7 +75,7 @@ scan-spec =
     tie.close
     (tie.spec
     least-requires
-    end-of-requires
+    find-requires
     sub-read-line
     part-read-line-start
     part-read-line-end

@@ -8,7 +8,8 @@ use lib.ListN.{getD}
 use Rattle.theory.specs.Basics.{all-below}
 use Rattle.theory.specs.TurnedDown.{is-passes}
 use Rattle.source.specs.Lines.{all-passes}
-use Rattle.source.proofs.Checks.{all-one-more, all-but-one}
+use Rattle.theory.proofs.GoodMemory.{all-below-fails}
+use Rattle.source.proofs.Checks.{all-one-more}
 use Rattle.source.proofs.are_passes.Statement.{statement}
 use Rattle.source.proofs.are_passes.Tie as tie
 
@@ -40,7 +41,7 @@ returns c =
     let at : _ = c .before .before .before .before in
     let call : _ = c .before .is-good-passes in
     let bad : _ = sym (call .ensures) ∙ not-true (call .result) (c .if1 .taken) in
-    sym (all-but-one (good (at .before .before)) 16 (at .loop .d) (omega arith) bad)
+    sym (all-below-fails 16 (good (at .before .before)) (at .loop .d) (omega arith) bad)
 
 add-d : tie.Need-add-d Inv-loop μ-loop
 add-d c = omega arith

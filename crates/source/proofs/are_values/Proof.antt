@@ -8,7 +8,8 @@ use lib.ListN.{getD}
 use Rattle.theory.specs.Basics.{all-below}
 use Rattle.theory.specs.TurnedDown.{is-value}
 use Rattle.source.specs.Lines.{all-values}
-use Rattle.source.proofs.Checks.{all-one-more, all-but-one}
+use Rattle.theory.proofs.GoodMemory.{all-below-fails}
+use Rattle.source.proofs.Checks.{all-one-more}
 use Rattle.source.proofs.are_values.Statement.{statement}
 use Rattle.source.proofs.are_values.Tie as tie
 
@@ -40,7 +41,7 @@ returns c =
     let at : _ = c .before .before .before .before in
     let call : _ = c .before .is-good-value in
     let bad : _ = sym (call .ensures) ∙ not-true (call .result) (c .if1 .taken) in
-    sym (all-but-one (good (at .before .before)) 32 (at .loop .i) (omega arith) bad)
+    sym (all-below-fails 32 (good (at .before .before)) (at .loop .i) (omega arith) bad)
 
 add-i : tie.Need-add-i Inv-loop μ-loop
 add-i c = omega arith

@@ -1,19 +1,15 @@
 -- `put_word` meets its contract: F1, and then the code of the block at the first line.
 use borrow.Author.Needs.{needs}
-use native.Mathlib.Omega.{arith}
-use Rattle.translation.proofs.Wholes.{site, word-length, word-put}
+use Rattle.translation.proofs.Wholes.{site, word-put}
 use Rattle.translation.proofs.put_word.Statement.{statement}
 use Rattle.translation.proofs.put_word.Tie as tie
 
 put-instruction-requires : tie.Need-put-instruction-requires
-put-instruction-requires c κs =
-    let k : _ = c .before .before .before .pre in
-    omega (arith, word-length _ _ _ (k .0))
+put-instruction-requires c κs = search needs
 
 put-block-requires : tie.Need-put-block-requires
 put-block-requires c κs =
-    let k : _ = c .before .before .before .before .before .before .before .pre in
-    (site _ _ _ (k .0), omega (arith, k .1, word-length _ _ _ (k .0)))
+    site _ _ _ (c .before .before .before .before .before .before .before .pre .0)
 
 same-length : tie.Need-same-length
 same-length c = search needs

@@ -1,5 +1,6 @@
-//! The library against the twin: the same work on the same input, both built for release, in one run. `benchmark [FOLDER]` prints the tables of
-//! docs/MEASURES.md; where its folder is given they are put there, behind the line of MARK, and speed.svg and growth.svg are drawn.
+//! The library against the twin: the same work on the same input, both built for release, in one run. `benchmark [FOLDER]` prints the
+//! tables of docs/MEASURES.md; where its folder is given they are put there, behind the line of MARK, and speed.svg and growth.svg are
+//! drawn.
 
 mod pictures;
 mod timing;
@@ -54,7 +55,13 @@ fn reports() -> Vec<Row> {
 }
 
 /// The work on each of the sizes.
-fn growth<const N: usize>(name: &'static str, by: &'static str, each: &'static str, sizes: [usize; N], work: &dyn Fn(usize) -> Row) -> Growth {
+fn growth<const N: usize>(
+    name: &'static str,
+    by: &'static str,
+    each: &'static str,
+    sizes: [usize; N],
+    work: &dyn Fn(usize) -> Row,
+) -> Growth {
     Growth { name, by, each, points: sizes.map(|size| (size, work(size))).into() }
 }
 
@@ -70,7 +77,9 @@ fn growths() -> Vec<Growth> {
         growth("translate plain lines", "lines", "line", lines, &|n| translating("", n, &as_text(&nested(0, n)))),
         growth("read 512 lines", "loops", "line", depths, &|depth| reading("", 512, &deep(depth))),
         growth("translate 512 lines", "loops", "symbol", depths, &|depth| translate(deep(depth))),
-        growth("translate in 16 loops", "symbols", "symbol", [10_000, 20_000, 50_000, 100_000, 200_000, 300_000], &|n| translate(in_16_loops(n))),
+        growth("translate in 16 loops", "symbols", "symbol", [10_000, 20_000, 50_000, 100_000, 200_000, 300_000], &|n| {
+            translate(in_16_loops(n))
+        }),
         growth("read a word", "symbols", "symbol", sizes, &|n| reading_word("", n, &cases_word(n))),
         growth("run a word", "symbols", "symbol", sizes, &|n| running_word("", n, &cases_word(n), &machine)),
     ]
@@ -93,7 +102,8 @@ fn growth_table(Growth { name, by, each, points }: &Growth) -> String {
 fn main() {
     let (speed, reports, growths) = (speed(), reports(), growths());
     let tables = format!(
-        "\n{}![times of the library, the twin's = 1](speed.svg)\n\n## The whole report\n\n{}## Growth\n\n![times against sizes](growth.svg)\n\n{}",
+        "\n{}![times of the library, the twin's = 1](speed.svg)\n\n## The whole report\n\n{}## Growth\n\n\
+         ![times against sizes](growth.svg)\n\n{}",
         speed_table(&speed),
         speed_table(&reports),
         growths.iter().map(growth_table).collect::<String>().trim_end().to_string() + "\n"

@@ -60,15 +60,19 @@ fn panel(growth: &Growth, left: f64, top: f64) -> String {
             format!("{x:.1},{y:.1}")
         };
         let points = growth.points.iter().map(point).collect::<Vec<_>>().join(" ");
-        let _ = writeln!(out, "<polyline points=\"{points}\" fill=\"none\" stroke=\"{colour}\" stroke-width=\"2\" stroke-dasharray=\"{dashes}\"/>");
+        let _ = writeln!(
+            out,
+            "<polyline points=\"{points}\" fill=\"none\" stroke=\"{colour}\" stroke-width=\"2\" stroke-dasharray=\"{dashes}\"/>"
+        );
     }
     out
 }
 
 /// The panels of all growths, three in a row.
 pub fn growth(all: &[Growth]) -> String {
-    let mut out =
-        String::from("<text x=\"70\" y=\"18\">time against size, the diagonal is linear; whole line: the library, broken line: the twin</text>\n");
+    let mut out = String::from(
+        "<text x=\"70\" y=\"18\">time against size, the diagonal is linear; whole line: the library, broken line: the twin</text>\n",
+    );
     for (at, growth) in all.iter().enumerate() {
         out += &panel(growth, 70.0 + 240.0 * (at % 3) as f64, 50.0 + 220.0 * (at / 3) as f64);
     }

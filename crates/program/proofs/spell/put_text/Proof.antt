@@ -2,7 +2,8 @@
 use Prim.Native.Nat.{_-_, _≤_}
 use native.Mathlib.Omega.{arith}
 use lib.ListN.{length}
-use Rattle.program.proofs.CommandsLeft.{next, TextFrom, text-start, text-room, text-more, text-whole}
+use Rattle.text.proofs.Puts.{put-length}
+use Rattle.program.proofs.CommandsLeft.{TextFrom, text-start, text-more, text-whole}
 use Rattle.program.proofs.spell.put_text.Statement.{statement}
 use Rattle.program.proofs.spell.put_text.Tie as tie
 
@@ -15,8 +16,7 @@ abbrev μ-loop : tie.MeasureT-loop
 loop-holds : tie.Need-loop-holds Inv-loop μ-loop
 loop-holds c = (
   omega arith,
-  text-start (c .before .before .args .list .now) (c .before .before .args .text .now) (c .before .before .pre .0)
-      (c .before .before .pre .1),
+  text-start (c .before .before .args .list .now) (c .before .before .args .text .now) (omega arith) (c .before .before .pre),
 )
 
 add-loop : tie.Need-add-loop Inv-loop μ-loop
@@ -38,9 +38,7 @@ shared-slice-read-put-command-3 : tie.Need-shared-slice-read-put-command-3 Inv-l
 shared-slice-read-put-command-3 c = omega arith
 
 put-command-requires : tie.Need-put-command-requires Inv-loop μ-loop
-put-command-requires c κs = let r = c .before .before .before .before .before .loop .inv .1 in
-    let x = next (r .left) (c .before .before .before .before .loop-test .taken) in
-    (x .index, x .source, text-room r (c .before .before .before .before .loop-test .taken))
+put-command-requires c κs = tt
 
 add-i : tie.Need-add-i Inv-loop μ-loop
 add-i c = omega arith
@@ -53,12 +51,11 @@ loop-again c =
     let c7 = c .before .before .before .before .before .before .before in
     let c8 = c7 .before in (
       omega arith,
-      text-more (c8 .loop .inv .1) (c7 .loop-test .taken) (c .before .before .put-command .kept .0)
-          (c .before .before .put-command .ensures),
+      text-more (c8 .loop .inv .1) (c7 .loop-test .taken) (c .before .before .put-command .ensures),
     )
 
 same-length : tie.Need-same-length Inv-loop μ-loop
-same-length c = c .before .loop .inv .1 .same
+same-length c = put-length (c .before .loop .inv .1 .put)
 
 returns : tie.Need-returns Inv-loop μ-loop
 returns c = text-whole (c .before .loop .inv .1) (c .loop-test .left)

@@ -2,7 +2,7 @@
 use Prim.Native.Nat.{_-_, _≤_}
 use native.Mathlib.Omega.{arith}
 use lib.ListN.{length}
-use Rattle.program.proofs.CommandsLeft.{next, SizeFrom, size-start, size-next, size-whole}
+use Rattle.program.proofs.CommandsLeft.{SizeFrom, size-start, size-fits, size-next, size-whole}
 use Rattle.program.proofs.spell.text_size.Statement.{statement}
 use Rattle.program.proofs.spell.text_size.Tie as tie
 
@@ -34,14 +34,12 @@ shared-slice-read-command-size-3 : tie.Need-shared-slice-read-command-size-3 Inv
 shared-slice-read-command-size-3 c = omega arith
 
 command-size-requires : tie.Need-command-size-requires Inv-loop μ-loop
-command-size-requires c κs =
-    let c4 = c .before .before .before .before in
-    let x = next (c4 .loop .inv .1 .left) (c .before .before .before .loop-test .taken) in
-    (x .index, x .source)
+command-size-requires c κs = tt
 
 add-size : tie.Need-add-size Inv-loop μ-loop
-add-size c = let r = c .before .before .before .before .before .loop .inv .1 in
-    omega (arith, r .sum, r .short, c .command-size .ensures .1)
+add-size c =
+    let c4 = c .before .before .before .before in
+    omega (arith, size-fits (c4 .before .loop .inv .1) (c4 .loop-test .taken) _ (c .command-size .ensures))
 
 add-i : tie.Need-add-i Inv-loop μ-loop
 add-i c = omega arith
@@ -53,7 +51,7 @@ loop-again : tie.Need-loop-again Inv-loop μ-loop
 loop-again c =
     let c4 = c .before .before .before .before in
     let c5 = c4 .before in
-    (omega arith, size-next (c5 .loop .inv .1) (c4 .loop-test .taken) _ (c .command-size .ensures .0))
+    (omega arith, size-next (c5 .loop .inv .1) (c4 .loop-test .taken) _ (c .command-size .ensures))
 
 returns : tie.Need-returns Inv-loop μ-loop
 returns c = size-whole (c .before .loop .inv .1) (c .loop-test .left)

@@ -1,8 +1,8 @@
 -- `run_row` meets its contract: both runs are the definitions'.
 use mathlib.Core.Path.{subst}
 use borrow.Author.Needs.{needs}
-use Rattle.theory.specs.TurnedDown.{after, read-list}
-use Rattle.source.specs.Answers.{run-from, HandsBack}
+use Rattle.theory.specs.TurnedDown.{after, read-list, run-from}
+use Rattle.source.specs.Answers.{source-state, HandsBack}
 use Rattle.source.specs.declared.State.{State}
 use Rattle.report.proofs.Called.{row-ran}
 use Rattle.report.proofs.rows.run_row.Statement.{statement}
@@ -20,20 +20,21 @@ of-source-requires c κs = search needs
 run-word-requires : tie.Need-run-word-requires
 run-word-requires c κs = search needs
 
-array-read-t14 : tie.Need-array-read-t14
-array-read-t14 c = search needs
+array-read-t15 : tie.Need-array-read-t15
+array-read-t15 c = search needs
 
 returns : tie.Need-returns
 returns c =
     let run = c .before .before .before .before in
     let fresh = run .before in
-    let start = fresh .before .before .before in
+    let start = fresh .before .before .before .before in
     let list = start .args .list .now in
     let values = start .args .values in
     let r = run .run-list .result in
-    let runs : State → Type 0 = λ s. HandsBack s (after (read-list list) (run-from s 100000)) r in
+    let runs : State → Type 0 = λ s. HandsBack s (after (read-list list) (run-from (source-state s) 100000)) r in
     let back = subst runs (fresh .fresh .ensures .state) (run .run-list .ensures) in
-    let ran = row-ran list (start .args .word .now) (start .args .variables) values (start .pre .0) (start .pre .1) r back in
+    let ran = row-ran list (start .args .kinds .now) (start .args .operands .now) (start .args .variables) values (start .pre .0)
+    (start .pre .1) r back in
     ran (c .before .of-source .result) (c .run-word .result) (c .before .of-source .ensures) (c .run-word .ensures)
 
 pub run-row-spec : {M : Type 1} → statement M
@@ -44,5 +45,5 @@ run-row-spec =
     run-list-requires
     of-source-requires
     run-word-requires
-    array-read-t14
+    array-read-t15
     returns)

@@ -1,6 +1,5 @@
 -- `put_ended` meets its contract: the end, a blank, and the steps.
-use native.Mathlib.Omega.{arith}
-use Rattle.report.proofs.Puts.{few-then, few-byte}
+use Rattle.text.proofs.Puts.{put-then}
 use borrow.Author.Needs.{needs}
 use Rattle.report.proofs.writing.put_ended.Statement.{statement}
 use Rattle.report.proofs.writing.put_ended.Tie as tie
@@ -24,8 +23,7 @@ returns : tie.Need-returns
 returns c =
     let at-blank = c .before .before .before .before .before .before .before in
     let at-end = at-blank .before .before .before .before in
-    let steps = few-then {most = 22} (omega arith) (few-byte (at-blank .put-byte .ensures)) (c .before .before .put-field .ensures) in
-    few-then (omega arith) (at-end .put-end .ensures) steps
+    put-then (at-end .put-end .ensures) (put-then (at-blank .put-byte .ensures) (c .before .before .put-field .ensures .put))
 
 pub put-ended-spec : {M : Type 1} → statement M
 put-ended-spec =

@@ -1,12 +1,13 @@
 -- `put_field` meets its contract: the number, and then the byte.
 use native.Mathlib.Omega.{arith}
-use Rattle.report.proofs.Puts.{few-then, few-byte}
+use Rattle.report.proofs.Puts.{few-then, few-text}
+use Rattle.report.proofs.Lengths.{decimal-fits}
 use borrow.Author.Needs.{needs}
 use Rattle.report.proofs.writing.put_field.Statement.{statement}
 use Rattle.report.proofs.writing.put_field.Tie as tie
 
-put-decimal-requires : tie.Need-put-decimal-requires
-put-decimal-requires c κs = search needs
+put-number-requires : tie.Need-put-number-requires
+put-number-requires c κs = search needs
 
 put-byte-requires : tie.Need-put-byte-requires
 put-byte-requires c κs = search needs
@@ -16,8 +17,10 @@ same-length c = search needs
 
 returns : tie.Need-returns
 returns c =
-    let number = c .before .before .before .before .before .before .put-decimal .ensures in
-    few-then (omega arith) number (few-byte (c .before .before .put-byte .ensures))
+    let number = c .before .before .before .before .before .before .put-number .ensures in
+    let start = c .before .before .before .before .before .before .before .before .before in
+    let digits = few-text number (decimal-fits (start .args .n) (start .fits .n .fits)) in
+    few-then (omega arith) digits (few-text {most = 1} (c .before .before .put-byte .ensures) (omega arith))
 
 pub put-field-spec : {M : Type 1} → statement M
-put-field-spec = tie.close (tie.spec put-decimal-requires put-byte-requires same-length returns)
+put-field-spec = tie.close (tie.spec put-number-requires put-byte-requires same-length returns)

@@ -5,11 +5,11 @@ use borrow.Author.Needs.{needs}
 use Rattle.report.proofs.writing.put_refusal.Statement.{statement}
 use Rattle.report.proofs.writing.put_refusal.Tie as tie
 
-slice-aggregate-put-text : tie.Need-slice-aggregate-put-text
-slice-aggregate-put-text c = search needs
+slice-aggregate-put-bytes : tie.Need-slice-aggregate-put-bytes
+slice-aggregate-put-bytes c = search needs
 
-put-text-requires : tie.Need-put-text-requires
-put-text-requires c κs = search needs
+put-bytes-requires : tie.Need-put-bytes-requires
+put-bytes-requires c κs = search needs
 
 cast-put-field : tie.Need-cast-put-field
 cast-put-field c = search needs
@@ -29,14 +29,15 @@ returns c =
     let at-text = at-number .before .before .before .before .before in
     let start = at-text .before .before .before .before in
     let rest = few-then {most = 42} (omega arith) (at-number .put-field .ensures) (c .before .before .put-field2 .ensures) in
-    rw (refusal-parts (start .args .refusal)) (few-then (omega arith) (few-text {most = 8} (at-text .put-text .ensures) (omega arith)) rest)
+    let front = few-text {most = 8} (at-text .put-bytes .ensures) (omega arith) in
+    rw (refusal-parts (start .args .refusal)) (few-then (omega arith) front rest)
 
 pub put-refusal-spec : {M : Type 1} → statement M
 put-refusal-spec =
     tie.close
     (tie.spec
-    slice-aggregate-put-text
-    put-text-requires
+    slice-aggregate-put-bytes
+    put-bytes-requires
     cast-put-field
     put-field-requires
     put-field-requires-2

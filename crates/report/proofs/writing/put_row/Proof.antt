@@ -1,5 +1,6 @@
 -- `put_row` meets its contract: the source's run, its word's, and the first variable.
-use Rattle.report.proofs.Puts.{put-then, row-parts}
+use Rattle.text.proofs.Puts.{put-then}
+use Rattle.report.proofs.Puts.{row-parts}
 use borrow.Author.Needs.{needs}
 use Rattle.report.proofs.writing.put_row.Statement.{statement}
 use Rattle.report.proofs.writing.put_row.Tie as tie
@@ -24,8 +25,8 @@ returns c =
     let at-word = c .before .before .before .before .before .before .before in
     let at-source = at-word .before .before .before .before in
     let start = at-source .before .before .before .before .before in
-    let rest = put-then (at-word .put-ended2 .ensures .put) (c .before .before .put-field .ensures .put) in
-    rw (row-parts (start .args .row)) (put-then (at-source .put-ended .ensures .put) rest)
+    let rest = put-then (at-word .put-ended2 .ensures) (c .before .before .put-field .ensures .put) in
+    rw (row-parts (start .args .row)) (put-then (at-source .put-ended .ensures) rest)
 
 pub put-row-spec : {M : Type 1} → statement M
 put-row-spec =

@@ -29,11 +29,11 @@ loop-holds c =
     (λ w. reading-whole (a .text .now) (a .named) (a .bound) (c .if1 .at) (w .0 .left) (w .1))
     (c .if1 .came))
 
-end-of-requires : tie.Need-end-of-requires Inv-loop μ-loop
-end-of-requires c κs = c .loop-test .taken
+find-requires : tie.Need-find-requires Inv-loop μ-loop
+find-requires c κs = search needs
 
 sub-field : tie.Need-sub-field Inv-loop μ-loop
-sub-field c = omega (arith, c .before .end-of .ensures)
+sub-field c = omega (arith, c .before .find .ensures)
 
 part-field-start : tie.Need-part-field-start Inv-loop μ-loop
 part-field-start c = search needs
@@ -41,7 +41,7 @@ part-field-start c = search needs
 part-field-end : tie.Need-part-field-end Inv-loop μ-loop
 part-field-end c =
     let t : List ℕ = c .before .before .before .before .before .before .before .args .text .now in
-    let end : _ = c .before .end-of .ensures in
+    let end : _ = c .before .find .ensures in
     omega (arith, before-within blank t (c .before .before .before .loop .at) (c .before .before .loop-test .taken))
 
 field-requires : tie.Need-field-requires Inv-loop μ-loop
@@ -59,7 +59,7 @@ returns c =
     let a : _ = u .before .before .before .before .before .before .args in
     let l : _ = u .before .before .loop in
     c .none2 .ensures ∙ reading-fails (a .text .now) (a .named) (a .bound) (l .line) (l .at) (l .inv) (u .before .loop-test .taken)
-    (u .end-of .result) (u .end-of .ensures) (sym (c .before .enum-told .given .1) ∙ c .before .before .before .field .ensures)
+    (u .find .result) (u .find .ensures) (sym (c .before .enum-told .given .1) ∙ c .before .before .before .field .ensures)
 
 enum-known-n : tie.Need-enum-known-n Inv-loop μ-loop
 enum-known-n c = search needs
@@ -77,12 +77,12 @@ add-at c =
     let u : _ = c .before .before .before .before .before .before .before in
     let s : _ = u .before .before .before .before .before .before in
     let t : List ℕ = s .args .text .now in
-    omega (arith, u .end-of .ensures, before-within blank t (u .before .before .loop .at) (u .before .loop-test .taken), s .good .0 .1)
+    omega (arith, u .find .ensures, before-within blank t (u .before .before .loop .at) (u .before .loop-test .taken), s .good .0 .1)
 
 loop-less : tie.Need-loop-less Inv-loop μ-loop
 loop-less c =
     let u : _ = c .before .before .before .before .before .before .before in
-    omega (arith, u .end-of .ensures, u .before .loop-test .taken)
+    omega (arith, u .find .ensures, u .before .loop-test .taken)
 
 loop-again : tie.Need-loop-again Inv-loop μ-loop
 loop-again c =
@@ -92,7 +92,7 @@ loop-again c =
     let l : _ = u .before .before .loop in
     let n : _ = c .before .before .n .given in
     rw (c .with .ensures) (reading-next (a .text .now) (a .named) (a .bound) (l .line) (l .at) (l .inv) (u .before .loop-test .taken)
-    (u .end-of .result) (u .end-of .ensures) (s .pre) (n .0 .0) (sym (n .1) ∙ c .before .before .before .before .field .ensures))
+    (u .find .result) (u .find .ensures) (s .pre) (n .0 .0) (sym (n .1) ∙ c .before .before .before .before .field .ensures))
 
 returns-2 : tie.Need-returns-2 Inv-loop μ-loop
 returns-2 c =
@@ -108,7 +108,7 @@ read-line-spec =
     μ-loop
     none-requires
     loop-holds
-    end-of-requires
+    find-requires
     sub-field
     part-field-start
     part-field-end

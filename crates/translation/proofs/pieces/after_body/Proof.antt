@@ -1,5 +1,4 @@
 -- `after_body` meets its contract: by the kind of pair.
-use native.Mathlib.Omega.{arith}
 use borrow.Author.Needs.{needs}
 use borrow.Author.Tests.{eq-eqb, ne-eqb}
 use Rattle.translation.proofs.pieces.after_body.Statement.{statement}
@@ -9,17 +8,13 @@ add-put-instruction : tie.Need-add-put-instruction
 add-put-instruction c = search needs
 
 put-instruction-requires : tie.Need-put-instruction-requires
-put-instruction-requires c κs =
-    let room : _ = rw (eq-eqb _ 4 (c .before .match .keys1)) at (c .before .before .before .pre .1) in
-    omega arith
+put-instruction-requires c κs = search needs
 
 add-put-instruction-2 : tie.Need-add-put-instruction-2
 add-put-instruction-2 c = search needs
 
 put-instruction-requires-2 : tie.Need-put-instruction-requires-2
-put-instruction-requires-2 c κs =
-    let room : _ = rw (ne-eqb _ 4 (c .before .match .rest .1)) at (c .before .before .before .pre .1) in
-    omega arith
+put-instruction-requires-2 c κs = search needs
 
 same-length : tie.Need-same-length
 same-length c = search needs

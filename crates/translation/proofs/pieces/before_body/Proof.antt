@@ -1,5 +1,4 @@
 -- `before_body` meets its contract: by the kind of pair.
-use native.Mathlib.Omega.{arith}
 use borrow.Author.Needs.{needs}
 use borrow.Author.Tests.{eq-eqb, ne-eqb}
 use Rattle.translation.proofs.pieces.before_body.Statement.{statement}
@@ -21,17 +20,13 @@ add-looping : tie.Need-add-looping
 add-looping c = search needs
 
 looping-requires : tie.Need-looping-requires
-looping-requires c κs =
-    let room : _ = rw (eq-eqb _ 4 (c .before .match .keys1)) at (c .before .before .before .before .pre .3) in
-    omega arith
+looping-requires c κs = search needs
 
 add-testing : tie.Need-add-testing
 add-testing c = search needs
 
 testing-requires : tie.Need-testing-requires
-testing-requires c κs =
-    let room : _ = rw (ne-eqb _ 4 (c .before .match .rest .1)) at (c .before .before .before .before .pre .3) in
-    omega arith
+testing-requires c κs = search needs
 
 same-length : tie.Need-same-length
 same-length c = search needs

@@ -1,8 +1,5 @@
 -- `plain_line` meets its contract: by the kind, and for a copy by its two indices.
-use mathlib.Core.Path.{ap}
-use native.Mathlib.Omega.{arith}
 use borrow.Author.Needs.{needs}
-use Rattle.theory.proofs.Sizes.{weight}
 use Rattle.translation.proofs.Plain.{clears, increments, touches, copies}
 use Rattle.translation.proofs.pieces.plain_line.Statement.{statement}
 use Rattle.translation.proofs.pieces.plain_line.Tie as tie
@@ -14,33 +11,19 @@ add-a : tie.Need-add-a
 add-a c = search needs
 
 clearing-requires : tie.Need-clearing-requires
-clearing-requires c κs =
-    let kind : _ = c .before in
-    let a : _ = kind .before .before .before .before .args in
-    omega (arith, ap weight (clears (a .line) (a .variables) (kind .match .keys1)))
+clearing-requires c κs = search needs
 
 put-instruction-requires : tie.Need-put-instruction-requires
-put-instruction-requires c κs =
-    let kind : _ = c .before in
-    let a : _ = kind .before .before .before .before .args in
-    omega (arith, ap weight (increments (a .line) (a .variables) (kind .match .keys2)))
+put-instruction-requires c κs = search needs
 
 testing-requires : tie.Need-testing-requires
-testing-requires c κs =
-    let test : _ = c .before in
-    let other : _ = test .before .before in
-    let a : _ = other .before .before .before .before .args in
-    omega (arith, ap weight (touches (a .line) (a .variables) (other .match .rest .0 .1) (other .match .rest .1) (test .if1 .taken)))
+testing-requires c κs = search needs
 
 add-copying : tie.Need-add-copying
 add-copying c = search needs
 
 copying-requires : tie.Need-copying-requires
-copying-requires c κs =
-    let test : _ = c .before in
-    let other : _ = test .before .before in
-    let a : _ = other .before .before .before .before .args in
-    omega (arith, ap weight (copies (a .line) (a .variables) (other .match .rest .0 .1) (other .match .rest .1) (test .if1 .left)))
+copying-requires c κs = search needs
 
 same-length : tie.Need-same-length
 same-length c = search needs

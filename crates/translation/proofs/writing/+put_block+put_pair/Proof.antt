@@ -9,9 +9,9 @@ use borrow.Fn.PlainCycle.{Measures, is, falls, and}
 use Rattle.translation.proofs.Sites.{bounds}
 use Rattle.translation.proofs.Walks.{plain-at, pair-at}
 use Rattle.translation.proofs.Walks as W
-use Rattle.program.proofs.Puts.{put-length}
-use Rattle.translation.proofs.Written.{Writing, writing-none, writing-more, writing-room, writing-all}
-use Rattle.translation.proofs.Written.{plain-room, plain-writes, front-room, body-room, back-room, pair-writes}
+use Rattle.text.proofs.Puts.{put-length}
+use Rattle.translation.proofs.Written.{Writing, writing-none, writing-more, writing-all}
+use Rattle.translation.proofs.Written.{plain-asks, plain-writes, front-asks, back-asks, pair-writes}
 use Rattle.translation.proofs.writing.put_block.Reads as block-reads
 use Rattle.translation.proofs.writing.put_block.Kinds as block-kinds
 use Rattle.translation.proofs.writing.+put_block+put_pair.Lts-put_block as block
@@ -79,18 +79,15 @@ module _ (t : ℕ) where
   )
 
   block-holds : block.Need-loop-holds in-block block-at block-reads.Post Inv-loop μ-loop
-  block-holds c = writing-none _ _ _ _ _ _ _ (c .before .before .pre .1 .0)
+  block-holds c = writing-none _ _ _ _ _ _ _ (omega arith) (omega arith) (c .before .before .pre .1)
 
   block-begins : block.Need-begins-requires in-block block-at block-reads.Post Inv-loop μ-loop
   block-begins c κs = c .loop .inv .passed .site .known .accepts
 
   block-pair : block.Need-put-pair-requires in-block block-at block-reads.Post Inv-loop μ-loop
   block-pair c κs =
-      let l : _ = c .before .before .before in
-      let inv : _ = l .loop .inv in
-      let goes : _ = sym (c .before .before .begins .ensures) ∙ c .before .if1 .taken in
-      let room : _ = writing-room _ _ _ _ _ _ _ _ _ _ inv goes (l .before .before .before .pre .1 .1) in
-      (omega (arith, inv .passed .onward), (inv .passed .site, goes, room))
+      let inv : _ = c .before .before .before .loop .inv in
+      (omega (arith, inv .passed .onward), (inv .passed .site, sym (c .before .before .begins .ensures) ∙ c .before .if1 .taken))
 
   block-less : block.Need-loop-less in-block block-at block-reads.Post Inv-loop μ-loop
   block-less c =
@@ -123,7 +120,7 @@ module _ (t : ℕ) where
       let l : _ = c .before .before .before in
       let q : _ = l .before .before .before .pre .1 in
       let p : _ = plain-at _ _ _ _ _ (q .0) (q .1) _ (l .line-at .ensures) (c .before .if1 .taken) in
-      plain-room _ _ _ _ _ (q .0) (q .1) _ p _ _ (q .2)
+      plain-asks _ _ _ _ _ (q .0) (q .1) _ p
 
   pair-deeper : pair.Need-deeper-requires in-pair pair-here pair-reads.Post
   pair-deeper c κs = omega (arith, bounds _ _ _ _ _ (c .before .before .before .before .before .pre .1 .0) .shallow)
@@ -145,34 +142,27 @@ module _ (t : ℕ) where
       let z : _ = c .before in
       let d : _ = z .before in
       let l : _ = d .before .before .before in
-      let s : _ = l .before .before .before in
-      let q : _ = s .pre .1 in
+      let q : _ = l .before .before .before .pre .1 in
       let p : _ = pair-at _ _ _ _ _ (q .0) (q .1) _ (l .line-at .ensures) (d .before .if1 .left) in
-      front-room _ _ _ _ _ (q .0) (q .1) _ p _ (d .deeper .ensures) _ (z .block-size .ensures) _ (s .args .out .now) (q .2)
+      front-asks _ _ _ _ _ (q .0) (q .1) _ p _ (d .deeper .ensures) _ (z .block-size .ensures)
 
   pair-body : pair.Need-put-block-requires in-pair pair-here pair-reads.Post
   pair-body c κs =
-      let f : _ = c .before .before .before in
-      let z : _ = f .before .before in
-      let d : _ = z .before in
+      let d : _ = c .before .before .before .before .before .before in
       let l : _ = d .before .before .before in
       let q : _ = l .before .before .before .pre .1 in
       let p : _ = pair-at _ _ _ _ _ (q .0) (q .1) _ (l .line-at .ensures) (d .before .if1 .left) in
-      let room : _ =
-      body-room _ _ _ _ _ (q .0) (q .1) _ p _ (d .deeper .ensures) _ (z .block-size .ensures) _ _ (q .2) _ _ (f .before-body .ensures .put) in
-      (omega (arith, W.here _ _ _ _ _ (q .0) (q .1) .below), (rw (d .deeper .ensures) (p .site), room))
+      (omega (arith, W.here _ _ _ _ _ (q .0) (q .1) .below), rw (d .deeper .ensures) (p .site))
 
   pair-back : pair.Need-put-after-requires in-pair pair-here pair-reads.Post
   pair-back c κs =
       let b : _ = c .before .before .before in
-      let f : _ = b .before .before .before .before in
-      let z : _ = f .before .before in
+      let z : _ = b .before .before .before .before .before .before in
       let d : _ = z .before in
       let l : _ = d .before .before .before in
       let q : _ = l .before .before .before .pre .1 in
       let p : _ = pair-at _ _ _ _ _ (q .0) (q .1) _ (l .line-at .ensures) (d .before .if1 .left) in
-      back-room _ _ _ _ _ (q .0) (q .1) _ p _ (d .deeper .ensures) _ (z .block-size .ensures) _ _ (q .2) _ _ _ _
-      (f .before-body .ensures .put) (b .put-block .ensures)
+      back-asks _ _ _ _ _ (q .0) (q .1) _ p _ (d .deeper .ensures) _ (z .block-size .ensures) (b .put-block .ensures .ended)
 
   pair-length : pair.Need-same-length in-pair pair-here pair-reads.Post
   pair-length c = search needs
@@ -198,7 +188,7 @@ module _ (t : ℕ) where
       let l : _ = d .before .before .before in
       let q : _ = l .before .before .before .pre .1 in
       let p : _ = pair-at _ _ _ _ _ (q .0) (q .1) _ (l .line-at .ensures) (d .before .if1 .left) in
-      pair-writes _ _ _ _ _ (q .0) (q .1) _ p _ (d .deeper .ensures) _ (z .block-size .ensures) _ _ (q .2) _ _ _ _ _ _
+      pair-writes _ _ _ _ _ (q .0) (q .1) _ p _ (d .deeper .ensures) _ (z .block-size .ensures) _ _ _ _ _ _ _ _
       (f .before-body .ensures .put) (b .put-block .ensures) (a .put-after .ensures)
 
 pub +put-block+put-pair-spec : {M : Type 1} → statement M

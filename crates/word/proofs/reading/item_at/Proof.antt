@@ -5,7 +5,8 @@ use Prim.Native.Nat.{ℕ, _+_, _-_}
 use native.Mathlib.Omega.{arith}
 use lib.ListN.{drop}
 use Rattle.word.specs.declared.reading.Item.{Item}
-use Rattle.word.specs.Scan.{run, kind-number, item-at, ones-at, hashes-at}
+use Rattle.text.specs.Runs.{run}
+use Rattle.word.specs.Scan.{kind-number, item-at, ones-at, hashes-at}
 use Rattle.word.proofs.Items.{ones-within}
 use borrow.Author.Needs.{needs}
 use Rattle.word.proofs.reading.item_at.Statement.{statement}

@@ -7,7 +7,7 @@ use lib.ListN.{length}
 use Rattle.theory.specs.Word.{is-symbol}
 use Rattle.word.specs.declared.answers.Read.the-variants.{Refused}
 use Rattle.word.specs.Scan.{symbols}
-use Rattle.word.proofs.Runs.{leading-length}
+use Rattle.text.proofs.Runs.{leading-length}
 use Rattle.word.proofs.Items.{Known}
 use Rattle.word.proofs.Judged.{empty-word, long-word, unknown-symbol, known-symbols}
 use borrow.Author.Needs.{needs}

@@ -6,19 +6,17 @@ use native.Mathlib.Omega.{arith}
 use mathlib.Core.Logic.{⊎-elim}
 use mathlib.Core.Bool.{true, false, not}
 use lib.Dec.{eqb}
-use borrow.Author.Tests.{eq-eqb, ne-eqb, not-true, not-false}
+use borrow.Author.Tests.{ne-eqb, not-true, not-false}
 use lib.ListN.{length, drop, getD}
 use Rattle.theory.specs.Word.{is-symbol}
+use Rattle.theory.proofs.Words.{one-is-symbol}
 use Rattle.word.specs.Scan.{symbols}
-use Rattle.word.proofs.Runs.{leading-more, leading-stop, leading-end}
+use Rattle.text.proofs.Runs.{leading-more, leading-stop, leading-end}
 use Rattle.word.proofs.reading.symbols_end.Statement.{statement}
 use Rattle.word.proofs.reading.symbols_end.Tie as tie
 
 unknown : (b : ℕ) → (b ≡ 49 → ⊥) → not (eqb b 35) ≡ true → is-symbol b ≡ false
 unknown b h e = rw (ne-eqb b 49 h, not-true (eqb b 35) e)
-
-known-one : (b : ℕ) → b ≡ 49 → is-symbol b ≡ true
-known-one b e = rw (eq-eqb b 49 e)
 
 known-hash : (b : ℕ) → (b ≡ 49 → ⊥) → not (eqb b 35) ≡ false → is-symbol b ≡ true
 known-hash b h e = rw (ne-eqb b 49 h, not-false (eqb b 35) e)
@@ -52,7 +50,7 @@ loop-again c =
     let i : ℕ = c .before .before .before .loop .i in
     let w : _ = c .before .before .before .before .args .word .now in
     let b : ℕ = getD w i 0 in
-    let known : is-symbol b ≡ true = ⊎-elim (λ s. known-hash b (s .0 .taken) (s .1 .left)) (λ s. known-one b (s .left)) (c .if1 .came) in
+    let known : is-symbol b ≡ true = ⊎-elim (λ s. known-hash b (s .0 .taken) (s .1 .left)) (λ s. one-is-symbol b (s .left)) (c .if1 .came) in
     (omega arith, omega (arith, leading-more is-symbol w i 0 (omega arith) known))
 
 returns-2 : tie.Need-returns-2 Inv-loop μ-loop

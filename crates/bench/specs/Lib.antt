@@ -1,0 +1,6 @@
+pub mod Table
+pub mod Example
+pub mod Refusals
+pub mod Results
+pub mod Orders
+pub mod Examples

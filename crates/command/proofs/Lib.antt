@@ -1,0 +1,3 @@
+pub mod LineParts
+pub mod LineNumbers
+pub mod Spellings

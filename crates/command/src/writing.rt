@@ -1,0 +1,84 @@
+// Three numbers, written as the line of their command; a kind that is none is taken as the last.
+use crate::CLEAR;
+use crate::COPY;
+use crate::ENDLOOP;
+use crate::INCREMENT;
+use crate::LOOP;
+use crate::WHILE;
+use text::put::put_byte;
+use text::put::put_bytes;
+use text::put::put_number;
+ghost use mathlib.Core.Path.{_≡_};
+ghost use mathlib.Core.List.{_++_};
+ghost use Prim.Native.Nat.{_≤_};
+ghost use lib.ListN.{length};
+ghost use Rattle.theory.specs.Text.{name-of};
+ghost use Rattle.text.specs.Puts.{Put};
+ghost use Rattle.command.specs.Spellings.{command-line};
+
+// A variable's name.
+fn put_name(out: &mut [u8], at: usize, index: u8) -> usize
+    ensures { λ r. ⌜ Put (name-of index) at (now (out .entry)) (now (out .exit)) r ⌝ }
+{
+    let digits = put_byte(&mut *out, at, b'X');
+    put_number(&mut *out, digits, index as usize)
+}
+
+// The bytes of a variable's name.
+fn name_size(index: u8) -> usize
+    ensures { λ r. ⌜ (r ≡ length (name-of index)) × (r ≤ 4) ⌝ }
+{
+    if index < 10 {
+        2
+    } else if index < 100 {
+        3
+    } else {
+        4
+    }
+}
+
+// A name between two words.
+fn put_around(out: &mut [u8], at: usize, front: &[u8], index: u8, back: &[u8]) -> usize
+    ensures { λ r. ⌜ Put (now (front .entry) ++ (name-of index ++ now (back .entry))) at (now (out .entry)) (now (out .exit)) r ⌝ }
+{
+    let named = put_bytes(out, at, front);
+    let rest = put_name(out, named, index);
+    put_bytes(out, rest, back)
+}
+
+// The line of a command, LF included, and the place after it.
+pub fn put_command(out: &mut [u8], at: usize, kind: u8, index: u8, source: u8) -> usize
+    ensures { λ r. ⌜ Put (command-line kind index source) at (now (out .entry)) (now (out .exit)) r ⌝ }
+{
+    match kind {
+        CLEAR => put_around(out, at, b"", index, b" <- 0\n"),
+        INCREMENT => {
+            let arrow = put_around(out, at, b"", index, b" <- ");
+            put_around(out, arrow, b"", index, b" + 1\n")
+        }
+        COPY => {
+            let arrow = put_around(out, at, b"", index, b" <- ");
+            put_around(out, arrow, b"", source, b"\n")
+        }
+        LOOP => put_around(out, at, b"loop ", index, b"\n"),
+        ENDLOOP => put_around(out, at, b"endloop ", index, b"\n"),
+        WHILE => put_around(out, at, b"while ", index, b" != 0\n"),
+        _ => put_around(out, at, b"endwhile ", index, b" != 0\n"),
+    }
+}
+
+// The bytes of a command's line, LF included.
+pub fn command_size(kind: u8, index: u8, source: u8) -> usize
+    ensures { λ r. ⌜ r ≡ length (command-line kind index source) ⌝ }
+{
+    let size = name_size(index);
+    match kind {
+        CLEAR => size + 6,
+        INCREMENT => 2 * size + 9,
+        COPY => size + name_size(source) + 5,
+        LOOP => size + 6,
+        ENDLOOP => size + 9,
+        WHILE => size + 12,
+        _ => size + 15,
+    }
+}

@@ -1,0 +1,98 @@
+-- One instruction as the definition has it: places as numbers, and what each kind does.
+use mathlib.Core.Path.{_≡_, refl, sym, ap, _∙_}
+use mathlib.Core.Bool.{Bool, true, false}
+use mathlib.Core.List.{List, [], _∷_, _++_}
+use Prim.Native.Nat.{ℕ, suc, _+_, _-_, _≤_}
+use native.Mathlib.Omega.{arith}
+use borrow.Author.Tests.{le-leb, lt-leb}
+use lib.IntN.{ℤ, pos, negsuc, _+ℤ_, _-ℤ_, +ℤ-assoc, +ℤ-comm, +ℤ-negℤ-cancel}
+use lib.ListN.{length}
+use Rattle.theory.specs.Basics.{put}
+use Rattle.theory.specs.Word as W
+use Rattle.theory.specs.Word.{Symbol, one, hash, Instruction, append, forward, backward, cases}
+use Rattle.engine.specs.declared.effect.Step.the-variants.{To}
+use Rattle.engine.specs.Ring.{Ring, Appended, Deleted}
+use Rattle.engine.specs.Steps.{Performed, placed, next-if, by-byte}
+
+-- Places
+
+pub place-forward : (a n : ℕ) → placed a +ℤ pos n ≡ placed (a + n)
+unfolding placed
+place-forward a n =
+    +ℤ-assoc (pos a) (negsuc 999999) (pos n)
+    ∙ ap (λ (z : ℤ). pos a +ℤ z) (+ℤ-comm (negsuc 999999) (pos n))
+    ∙ sym (+ℤ-assoc (pos a) (pos n) (negsuc 999999))
+
+pub place-backward : (a n : ℕ) → n ≤ a → placed a -ℤ pos n ≡ placed (a - n)
+place-backward a n h =
+    let e : a ≡ a - n + n = omega arith in
+    ap (λ (z : ℤ). z -ℤ pos n) (ap placed e ∙ sym (place-forward (a - n) n)) ∙ +ℤ-negℤ-cancel (placed (a - n)) (pos n)
+
+-- An instruction by its numbers
+
+pub is-append-one : (i : Instruction) {r : ℕ} → W.kind i ≡ 1 → W.operand i ≡ suc r → i ≡ append one (suc r)
+is-append-one (append one n) k e = ap {B = Instruction} (append one) e
+is-append-one (append hash n) k e = absurd (omega arith)
+is-append-one (forward n) k e = absurd (omega arith)
+is-append-one (backward n) k e = absurd (omega arith)
+is-append-one (cases n) k e = absurd (omega arith)
+
+pub is-append-hash : (i : Instruction) {r : ℕ} → W.kind i ≡ 2 → W.operand i ≡ suc r → i ≡ append hash (suc r)
+is-append-hash (append one n) k e = absurd (omega arith)
+is-append-hash (append hash n) k e = ap {B = Instruction} (append hash) e
+is-append-hash (forward n) k e = absurd (omega arith)
+is-append-hash (backward n) k e = absurd (omega arith)
+is-append-hash (cases n) k e = absurd (omega arith)
+
+pub is-forward : (i : Instruction) {n : ℕ} → W.kind i ≡ 3 → W.operand i ≡ n → i ≡ forward n
+is-forward (append one n) k e = absurd (omega arith)
+is-forward (append hash n) k e = absurd (omega arith)
+is-forward (forward n) k e = ap {B = Instruction} forward e
+is-forward (backward n) k e = absurd (omega arith)
+is-forward (cases n) k e = absurd (omega arith)
+
+pub is-backward : (i : Instruction) {n : ℕ} → W.kind i ≡ 4 → W.operand i ≡ n → i ≡ backward n
+is-backward (append one n) k e = absurd (omega arith)
+is-backward (append hash n) k e = absurd (omega arith)
+is-backward (forward n) k e = absurd (omega arith)
+is-backward (backward n) k e = ap {B = Instruction} backward e
+is-backward (cases n) k e = absurd (omega arith)
+
+pub is-cases : (i : Instruction) {k r : ℕ} → (k ≡ 1 → ⊥) → (k ≡ 2 → ⊥) → (k ≡ 3 → ⊥) → (k ≡ 4 → ⊥) → W.kind i ≡ k → W.operand i ≡ suc r
+    → i ≡ cases (suc r)
+is-cases (append one n) no-1 no-2 no-3 no-4 k e = absurd (no-1 (sym k))
+is-cases (append hash n) no-1 no-2 no-3 no-4 k e = absurd (no-2 (sym k))
+is-cases (forward n) no-1 no-2 no-3 no-4 k e = absurd (no-3 (sym k))
+is-cases (backward n) no-1 no-2 no-3 no-4 k e = absurd (no-4 (sym k))
+is-cases (cases n) no-1 no-2 no-3 no-4 k e = ap {B = Instruction} cases e
+
+-- What each does, at register r counted from 0
+
+module _ (capacity : ℕ) (f : ℕ → List Symbol) (here : ℕ) (store lengths starts : List ℕ) where
+  pub did-append : (r : ℕ) (x : Symbol) (room : Bool) → Appended capacity f r x room store lengths starts
+      → Performed capacity f here (append x (suc r)) (next-if room here) store lengths starts
+  did-append r x true h = (
+    put f (suc r) (f (suc r) ++ (x ∷ [])),
+    rw (le-leb (suc (length (f (suc r)))) capacity (h .0), place-forward here 1),
+    h .1,
+    omega arith,
+  )
+  did-append r x false h = (rw (lt-leb (suc (length (f (suc r)))) capacity (omega (arith, h .0))), h .1)
+
+  pub did-forward : (n : ℕ) → n ≤ 600000 → Ring capacity f store lengths starts
+      → Performed capacity f here (forward n) (To (here + n)) store lengths starts
+  did-forward n l h = (f, rw (place-forward here n), h, omega arith)
+
+  pub did-backward : (n : ℕ) → n ≤ here → Ring capacity f store lengths starts
+      → Performed capacity f here (backward n) (To (here - n)) store lengths starts
+  did-backward n l h = (f, rw (place-backward here n l), h, omega arith)
+
+  pub did-cases : (r b : ℕ) → Deleted capacity f r (f (suc r)) b store lengths starts
+      → Performed capacity f here (cases (suc r)) (by-byte b here) store lengths starts
+  did-cases r b = go (f (suc r)) refl
+    where
+      go : (ys : List Symbol) → f (suc r) ≡ ys → Deleted capacity f r ys b store lengths starts
+          → Performed capacity f here (cases (suc r)) (by-byte b here) store lengths starts
+      go [] e h = rw (h .0) (f, rw (e, place-forward here 1), h .1, omega arith)
+      go (one ∷ xs) e h = rw (h .0) (put f (suc r) xs, rw (e, place-forward here 2), h .1, omega arith)
+      go (hash ∷ xs) e h = rw (h .0) (put f (suc r) xs, rw (e, place-forward here 3), h .1, omega arith)

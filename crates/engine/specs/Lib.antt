@@ -1,0 +1,5 @@
+pub mod Ring
+pub mod Steps
+pub mod Lacking
+pub mod Inside
+pub mod Entries

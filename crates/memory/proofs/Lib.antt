@@ -1,0 +1,5 @@
+pub mod Lists
+pub mod Places
+pub mod Rule10
+pub mod RegisterOne
+pub mod Values

@@ -1,0 +1,58 @@
+-- Register 1 of a good memory stands in the first bytes of the store.
+use mathlib.Core.Path.{_≡_, sym, ap, _∙_}
+use mathlib.Core.Bool.{true, false}
+use mathlib.Core.List.{List}
+use Prim.Native.Nat.{ℕ, _≤_, _<_}
+use native.Mathlib.Nat.{zero-mul}
+use native.Mathlib.Omega.{arith}
+use borrow.Author.Tests.{leb-true}
+use lib.Dec.{leb}
+use lib.ListN.{length, take, drop, getD}
+use lib.Seq.{take-take}
+use Rattle.theory.specs.Text.{Bytes}
+use Rattle.theory.specs.Word.{Symbol, bytes-of}
+use Rattle.theory.specs.Machines.{Memory, contents, laid, is-memory, offset, place-of}
+use Rattle.theory.specs.TurnedDown.{rule-10}
+use Rattle.theory.proofs.Faults.{and-first}
+use Rattle.theory.proofs.GoodMemory.{Good, memory-is-good, length-contents, contents-laid, contents-fit, take-laid, offset-suc}
+use Rattle.memory.specs.declared.answers.Value.{Value}
+use Rattle.memory.specs.declared.answers.Value.the-variants as Value
+use Rattle.memory.specs.Calls.{Valued}
+
+pub value-refused : (m : Memory) → is-memory m ≡ false → Valued m (Value.Refused (record { number = 10; place = 0 }))
+unfolding rule-10
+value-refused m h = record { is = rw h; bytes = λ n e. let z : _≡_ {A = ℕ} 0 1 = cc in absurd (omega arith) }
+
+module _ (m : Memory) (h : is-memory m ≡ true) where
+  abbrev g : Good m
+  g = memory-is-good m h
+
+  some-register : 0 < m .count
+  some-register = leb-true 1 (m .count) (and-first (leb 1 (m .count)) (leb (m .count) 64) (g .registers))
+
+  pub first-length : 0 < length (m .lengths)
+  first-length = omega (arith, some-register, g .lengths)
+
+  value-length : getD (m .lengths) 0 0 ≡ length (contents m 1)
+  value-length = sym (length-contents m g 0 some-register)
+
+  value-bytes : take (length (contents m 1)) (m .store) ≡ bytes-of (contents m 1)
+  value-bytes = go (contents m 1) (contents-fit m g 0 some-register) (contents-laid m g 0 some-register)
+    where
+      go : (xs : List Symbol) → length xs ≤ m .capacity → laid (m .capacity) xs ≡ place-of m 1 → take (length xs) (m .store) ≡ bytes-of xs
+      go xs fits e =
+          let start : offset (m .capacity) 1 ≡ 0 = offset-suc (m .capacity) 0 ∙ zero-mul (m .capacity) in
+          let place : place-of m 1 ≡ take (m .capacity) (m .store) = ap (λ (k : ℕ). take (m .capacity) (drop k (m .store))) start in
+          sym (take-take (length xs) (m .capacity) (m .store) fits)
+          ∙ ap (λ (b : Bytes). take (length xs) b) (sym (e ∙ place))
+          ∙ take-laid (m .capacity) xs
+
+  pub value-read : Valued m (Value.Length (getD (m .lengths) 0 0))
+  unfolding rule-10
+  value-read = record {
+    is = rw h (ap {B = Value} Value.Length value-length);
+    bytes = λ n e. ap (λ (k : ℕ). take k (m .store)) (same n e) ∙ value-bytes;
+  }
+    where
+      same : (n : ℕ) → Value.Length (getD (m .lengths) 0 0) ≡ Value.Length n → n ≡ length (contents m 1)
+      same n e = let z : getD (m .lengths) 0 0 ≡ n = cc in sym z ∙ value-length

@@ -1,0 +1,33 @@
+-- A run that says halted stands at a halted place, so that register 1 is the word's value.
+use mathlib.Core.Path.{_≡_, refl, sym, ap, _∙_}
+use mathlib.Core.Option.{Option, some}
+use mathlib.Core.List.{List}
+use Prim.Native.Nat.{ℕ}
+use native.Mathlib.Omega.{arith}
+use Rattle.theory.specs.Runs.{Machine, run, within}
+use Rattle.theory.specs.Word as W
+use Rattle.theory.specs.Word.{Symbol}
+use Rattle.theory.specs.Machines.{run-word, word-value, word-state}
+use Rattle.theory.specs.declared.End.{End}
+use Rattle.theory.specs.declared.End.the-variants.{Halted, Spent, Full}
+use Rattle.theory.proofs.Budgets.{run-induction}
+use Rattle.theory.proofs.GoodMemory.{memory-stays-good}
+use Rattle.memory.specs.Values.{HaltedValue}
+
+not-halted : (e : End) → e ≡ Halted → (e ≡ Spent → ⊥) × (e ≡ Full → ⊥)
+not-halted e h = (λ s. let z : _≡_ {A = ℕ} 0 1 = cc in omega arith, λ f. let z : _≡_ {A = ℕ} 0 1 = cc in omega arith)
+
+ends-halted : {S : Type 0} (M : Machine S) (b n : ℕ) (s : S) → run M b n s .end ≡ Halted → M .ended (run M b n s .state) ≡ some Halted
+ends-halted {S} M = run-induction M (λ b n s o. o .end ≡ Halted → M .ended (o .state) ≡ some Halted) (record {
+  ended = λ b n s e h t. h ∙ ap {B = Option End} some t;
+  spent = λ n s h t. absurd (not-halted Spent t .0 refl);
+  counted = λ b n s h k t. absurd (not-halted Spent t .0 refl);
+  full = λ b n s h k x t. absurd (not-halted Full t .1 refl);
+  step = λ b n s s′ o h k x later t. later t;
+})
+
+pub halted-value : HaltedValue
+unfolding word-value run-word
+halted-value w m p budget good lows names t =
+    let at-end = ends-halted (W.machine (within (m .capacity)) w) budget (p .steps) (word-state m p) t in
+    rw at-end (ap {B = Option (List Symbol)} some (sym (memory-stays-good w m p budget good lows names .1 1 (omega arith))))

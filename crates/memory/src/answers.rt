@@ -1,0 +1,53 @@
+// The types that this crate's entries take and hand back, with the limits and the fresh state.
+ghost use mathlib.Core.Path.{_≡_};
+ghost use lib.IntN.{pos};
+use theory::End;
+use theory::Refusal;
+
+// Where a machine stands: a place, any signed number, and the steps taken so far.
+pub struct Position {
+    pub place: i32,
+    pub steps: u32,
+}
+
+impl Position {
+    pub const STEPS: u32 = 4294967295;
+
+    // Place 1, no steps.
+    pub fn fresh() -> Self
+        ensures { λ r. ⌜ r ≡ record { place = pos 1; steps = 0 } ⌝ }
+    {
+        Position { place: 1, steps: 0 }
+    }
+}
+
+// A machine of the set: how many registers it has, and how many symbols each may hold.
+pub struct Machine {
+    pub registers: usize,
+    pub capacity: usize,
+}
+
+impl Machine {
+    pub const REGISTERS: usize = 64;
+
+    pub const CAPACITY: usize = 1024;
+}
+
+// How a run ended, and the steps taken; or why it was turned down.
+pub enum Ended {
+    Ran(End, u32),
+    Refused(Refusal),
+}
+
+// What a run hands back: where the machine stands then, and how it ended.
+pub struct Run {
+    pub position: Position,
+    pub ended: Ended,
+}
+
+// The value of a halted word: register 1, which is the first so many bytes of the store; or why the call is turned down. Of a word that is
+// not halted this is what register 1 holds so far.
+pub enum Value {
+    Length(usize),
+    Refused(Refusal),
+}

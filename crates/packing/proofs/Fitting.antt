@@ -1,0 +1,191 @@
+-- Every answer of an entry fits its bits.
+use mathlib.Core.Path.{_≡_, refl}
+use mathlib.Core.Bool.{Bool, true, false}
+use mathlib.Core.Option.{Option, none, some}
+use mathlib.Core.List.{List, map}
+use Prim.Native.Nat.{ℕ, _≤_, _<_, _^_}
+use native.Mathlib.Omega.{arith}
+use lib.Dec.{leb}
+use lib.ListN.{length, length-map}
+use Rattle.theory.specs.Text.{Bytes}
+use Rattle.theory.specs.ProgramText.{Command, text-of, list-of, listed}
+use Rattle.theory.specs.Runs.{Outcome}
+use Rattle.theory.specs.Source as S
+use Rattle.theory.specs.Word as W
+use Rattle.theory.specs.Word.{Entry, byte-of, bytes-of, spell, spell-entries}
+use Rattle.theory.specs.Translation.{word-of, word-text}
+use Rattle.theory.specs.Machines.{SourceState, Memory, Position, is-memory, run-source, run-word}
+use Rattle.theory.specs.TurnedDown.{Answer, refused, unless, answer, after, mapped, lend, is-source}
+use Rattle.theory.specs.TurnedDown.{rule-9, rule-10, rule-15, rule-19}
+use Rattle.theory.specs.TurnedDown.{text-fault, text-lines, program-fault, word-fault, word-entries, table-fault, instructions}
+use Rattle.theory.specs.TurnedDown.{next-byte, next-entry, read-text, read-list, read-word, read-table, read-word-for, read-table-for}
+use Rattle.theory.specs.TurnedDown.{read-program-into, write-program-into, translate-into, run-from}
+use Rattle.theory.specs.TurnedDown.{read-word-into, write-word-into, run-on}
+use Rattle.theory.specs.Basics.{or-else, present}
+use Rattle.theory.specs.Claims.{Accepted}
+use Rattle.theory.specs.declared.End.{End}
+use Rattle.theory.specs.declared.End.the-variants.{Halted, Strayed, Spent, Full}
+use Rattle.theory.specs.declared.Refusal.{Refusal}
+use Rattle.theory.proofs.Budgets.{steps-within}
+use Rattle.theory.proofs.Nesting.{reads-accepted}
+use Rattle.theory.proofs.Sizes.{words-fit}
+use Rattle.theory.proofs.Texts.{text-accepted}
+use Rattle.theory.proofs.Words.{table-good, total-length}
+use Rattle.packing.specs.Packed.{end-number}
+use Rattle.packing.specs.Claims.{Fields, Fit, fields, program-fields, word-fields, count-fields, end-fields, AnswersFit}
+use Rattle.packing.proofs.Bounds.{Low, low-unless, low-or, few-lines, program-low, few-bytes, text-low, few-instructions}
+use Rattle.packing.proofs.Bounds.{word-low, word-for-low, table-low, table-for-low}
+
+fit-refused : {A : Type 0} (f : A → Fields) (r : Refusal) → Low (some r) → Fit (fields f (refused r))
+fit-refused f r l = let h = l r refl in record { what = omega arith; high = omega (arith, h .0); low = omega (arith, h .1) }
+
+fit-answer : {A : Type 0} (f : A → Fields) (o : Option Refusal) (a : A) → Low o → (o ≡ none → Fit (f a)) → Fit (fields f (answer o a))
+fit-answer f none a l h = h refl
+fit-answer f (some r) a l h = fit-refused f r l
+
+fit-after : {A B : Type 0} (f : B → Fields) (o : Option Refusal) (a : A) (g : A → Answer B) → Low o → (o ≡ none → Fit (fields f (g a)))
+    → Fit (fields f (after (answer o a) g))
+fit-after f none a g l h = h refl
+fit-after f (some r) a g l h = fit-refused f r l
+
+no-room-low : {A B : Type 0} (lent : List A) (l : List B) → Low (rule-19 lent l)
+unfolding rule-19
+no-room-low lent l = low-unless (leb (length l) (length lent)) 19 0 (omega arith) (omega arith)
+
+-- Lists that are written
+fit-lent : {A : Type 0} (o : Option Refusal) (a : A) (g : A → List ℕ) (lent : List ℕ) → Low o → (o ≡ none → length (g a) ≤ 600000)
+    → Fit (fields count-fields (lend lent (mapped g (answer o a))))
+fit-lent none a g lent l h =
+    fit-answer count-fields (rule-19 lent (g a)) (g a) (no-room-low lent (g a))
+    (λ e. record { what = omega arith; high = omega arith; low = omega (arith, h refl) })
+fit-lent (some r) a g lent l h = fit-refused (count-fields {A = ℕ}) r l
+
+-- Programs
+module _ (p : List Command) (accepted : Accepted p) where
+  program-fit : Fit (program-fields p)
+  program-fit =
+      record {
+        what = omega arith;
+        high = omega (arith, words-fit p accepted .0 .few-variables);
+        low = omega (arith, few-lines (map some p) accepted, length-map p some);
+      }
+
+  word-fit : Fit (word-fields p)
+  unfolding word-text
+  word-fit =
+      let sized = words-fit p accepted .0 in
+      record {
+        what = omega arith;
+        high = omega (arith, sized .few-instructions);
+        low = omega (arith, sized .few-symbols, length-map (spell (word-of p)) byte-of);
+      }
+
+text-program : (t : Bytes) → text-fault t ≡ none → Accepted (present (text-lines t))
+unfolding read-text
+text-program t e = reads-accepted .0 t (present (text-lines t)) (rw e)
+
+list-program : (l : Bytes) → program-fault (listed l) ≡ none → Accepted (present (listed l))
+unfolding read-list
+list-program l e = reads-accepted .1 l (present (listed l)) (rw e)
+
+read-program-fits : (list text : Bytes) → Fit (fields program-fields (read-program-into list text))
+unfolding read-program-into read-text
+read-program-fits list text =
+    let p = present (text-lines text) in
+    fit-after program-fields (text-fault text) p (λ q. answer (rule-19 list (list-of q)) q) (text-low text)
+    (λ e. fit-answer program-fields (rule-19 list (list-of p)) p (no-room-low list (list-of p)) (λ f. program-fit p (text-program text e)))
+
+write-program-fits : (text list : Bytes) → Fit (fields count-fields (write-program-into text list))
+unfolding write-program-into read-list
+write-program-fits text list =
+    let p = present (listed list) in
+    fit-lent (program-fault (listed list)) p text-of text (program-low (listed list))
+    (λ e. omega (arith, few-bytes (text-of p) (text-accepted p (list-program list e))))
+
+translate-fits : (word text : Bytes) → Fit (fields word-fields (translate-into word (read-text text)))
+unfolding translate-into read-text
+translate-fits word text =
+    let p = present (text-lines text) in
+    fit-after word-fields (text-fault text) p (λ q. answer (rule-19 word (word-text q)) q) (text-low text)
+    (λ e. fit-answer word-fields (rule-19 word (word-text p)) p (no-room-low word (word-text p)) (λ f. word-fit p (text-program text e)))
+
+translate-list-fits : (word list : Bytes) → Fit (fields word-fields (translate-into word (read-list list)))
+unfolding translate-into read-list
+translate-list-fits word list =
+    let p = present (listed list) in
+    fit-after word-fields (program-fault (listed list)) p (λ q. answer (rule-19 word (word-text q)) q) (program-low (listed list))
+    (λ e. fit-answer word-fields (rule-19 word (word-text p)) p (no-room-low word (word-text p)) (λ f. word-fit p (list-program list e)))
+
+-- Runs
+end-small : (e : End) → end-number e < 2 ^ 8
+end-small Halted = omega arith
+end-small Strayed = omega arith
+end-small Spent = omega arith
+end-small Full = omega arith
+
+end-fit : {S : Type 0} (o : Outcome S) (budget : ℕ) → budget < 2 ^ 32 → o .steps ≤ budget → Fit (end-fields o)
+end-fit o budget b h = record { what = end-small (o .end); high = omega arith; low = omega (arith, b, h) }
+
+source-steps : (p : List Command) (s : SourceState) (budget : ℕ) → run-source p s budget .steps ≤ budget
+unfolding run-source
+source-steps p s budget = steps-within _ budget (s .steps) (s .state)
+
+word-steps : (w : List W.Instruction) (m : Memory) (p : Position) (budget : ℕ) → run-word w m p budget .steps ≤ budget
+unfolding run-word
+word-steps w m p budget = steps-within _ budget (p .steps) _
+
+from-fits : (s : SourceState) (budget : ℕ) → budget < 2 ^ 32 → (p : List Command) → Fit (fields end-fields (run-from s budget p))
+unfolding run-from rule-9
+from-fits s budget b p =
+    fit-answer end-fields (rule-9 p s) (run-source p s budget)
+    (low-unless (is-source p s) 9 0 (omega arith) (omega arith))
+    (λ e. end-fit (run-source p s budget) budget b (source-steps p s budget))
+
+-- Words and tables
+read-word-fits : (kinds operands : List ℕ) (word : Bytes) → Fit (fields count-fields (read-word-into kinds operands word))
+unfolding read-word-into read-word
+read-word-fits kinds operands word =
+    let t = word-entries word in
+    fit-after count-fields (word-fault word) t (λ u. answer (or-else (rule-19 kinds u) (rule-19 operands u)) u) (word-low word)
+    (λ e. fit-answer count-fields (or-else (rule-19 kinds t) (rule-19 operands t)) t
+    (low-or _ _ (no-room-low kinds t) (λ f. no-room-low operands t))
+    (λ f. record { what = omega arith; high = omega arith; low = omega (arith, few-instructions word e) }))
+
+write-word-fits : (word : Bytes) (table : List Entry) → Fit (fields count-fields (write-word-into word table))
+unfolding write-word-into read-table
+write-word-fits word table =
+    fit-lent (table-fault table) table (λ u. bytes-of (spell-entries u)) word (table-low table)
+    (λ e. omega (arith, table-good table e .symbols, total-length table, length-map (spell-entries table) byte-of))
+
+-- A run of what was read, after rule 10
+run-fits : (m : Memory) (p : Position) (budget : ℕ) → budget < 2 ^ 32 → (o : Option Refusal) (t : List Entry) → Low o
+    → Fit (fields end-fields (run-on m p budget (answer o t)))
+unfolding rule-10
+run-fits m p budget b o t l = go (is-memory m) o l
+  where
+    go : (x : Bool) (o : Option Refusal) → Low o
+        → Fit (fields (end-fields {S = W.State}) (mapped (λ u. run-word (instructions u) m p budget) (after (answer (unless x 10 0)
+        m) (λ n. answer o t))))
+    go false o l = record { what = omega arith; high = omega arith; low = omega arith }
+    go true none l = end-fit (run-word (instructions t) m p budget) budget b (word-steps (instructions t) m p budget)
+    go true (some r) l = fit-refused (end-fields {S = W.State}) r l
+
+pub answers-fit : AnswersFit
+unfolding read-text read-list read-word-for read-table-for
+answers-fit =
+    record {
+      read-program = read-program-fits;
+      write-program = write-program-fits;
+      translate = translate-fits;
+      translate-list = translate-list-fits;
+      runs-text = λ s budget b text. fit-after end-fields (text-fault text) (present (text-lines text)) (run-from s budget) (text-low text)
+          (λ e. from-fits s budget b (present (text-lines text)));
+      runs-list = λ s budget b list. fit-after end-fields (program-fault (listed list)) (present (listed list)) (run-from s budget)
+          (program-low (listed list)) (λ e. from-fits s budget b (present (listed list)));
+      read-word = read-word-fits;
+      write-word = write-word-fits;
+      runs-word = λ m p budget b word. run-fits m p budget b (or-else (word-fault word) (rule-15 next-byte (m .count) (word-entries word)))
+          (word-entries word) (word-for-low (m .count) word);
+      runs-table = λ m p budget b t. run-fits m p budget b (or-else (table-fault t) (rule-15 next-entry (m .count) t)) t
+          (table-for-low (m .count) t);
+    }

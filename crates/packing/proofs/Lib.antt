@@ -1,0 +1,4 @@
+pub mod Packs
+pub mod Unpacked
+pub mod Bounds
+pub mod Fitting

@@ -1,0 +1,75 @@
+-- Nothing is cut where an answer is packed into one number: stated here, proved in proofs/Unpacked.antt and proofs/Fitting.antt.
+use mathlib.Core.Path.{_≡_}
+use mathlib.Core.List.{List}
+use Prim.Native.Nat.{ℕ, _/_, _%_, _^_, _<_}
+use lib.ListN.{length}
+use Rattle.theory.specs.Text.{Bytes}
+use Rattle.theory.specs.ProgramText.{Command, variables}
+use Rattle.theory.specs.Runs.{Outcome}
+use Rattle.theory.specs.Word.{Entry}
+use Rattle.theory.specs.Translation.{word-of, word-text}
+use Rattle.theory.specs.Machines.{SourceState, Memory, Position}
+use Rattle.theory.specs.TurnedDown.{Answer, done, refused, read-text, read-list, read-word-for, read-table-for}
+use Rattle.theory.specs.TurnedDown.{read-program-into, write-program-into, translate-into, run-program}
+use Rattle.theory.specs.TurnedDown.{read-word-into, write-word-into, run-on}
+use Rattle.packing.specs.Packed.{pack, end-number, packed, commands, sizes, count, ending}
+
+-- What a number says, field by field, as the header reads it: bits 56 to 63, bits 32 to 47, bits 0 to 31
+pub record Fields : Type 0 where
+  pub what : ℕ
+  pub high : ℕ
+  pub low : ℕ
+
+unfoldable pub unpack : ℕ → Fields
+unpack n = record { what = n / 2 ^ 56; high = n / 2 ^ 32 % 2 ^ 16; low = n % 2 ^ 32 }
+
+-- Numbers that their bits have room for
+pub record Fit (f : Fields) : Type 0 where
+  pub what : f .what < 2 ^ 8
+  pub high : f .high < 2 ^ 16
+  pub low : f .low < 2 ^ 32
+
+-- Numbers that fit are read back as they were packed
+abbrev pub NothingCut : Type 0
+NothingCut = (f : Fields) → Fit f → unpack (pack (f .what) (f .high) (f .low)) ≡ f
+
+-- What is packed of an answer
+abbrev pub fields : {A : Type 0} → (A → Fields) → Answer A → Fields
+fields f (done a) = f a
+fields f (refused r) = record { what = 255; high = r .number; low = r .place }
+
+abbrev pub program-fields : List Command → Fields
+program-fields p = record { what = 0; high = variables p; low = length p }
+
+abbrev pub word-fields : List Command → Fields
+word-fields p = record { what = 0; high = length (word-of p); low = length (word-text p) }
+
+abbrev pub count-fields : {A : Type 0} → List A → Fields
+count-fields l = record { what = 0; high = 0; low = length l }
+
+abbrev pub end-fields : {S : Type 0} → Outcome S → Fields
+end-fields o = record { what = end-number (o .end); high = 0; low = o .steps }
+
+-- An answer that fits is read back from its number
+pub record ReadsBack : Type 1 where
+  pub program : (a : Answer (List Command)) → Fit (fields program-fields a) → unpack (packed commands a) ≡ fields program-fields a
+  pub word : (a : Answer (List Command)) → Fit (fields word-fields a) → unpack (packed sizes a) ≡ fields word-fields a
+  pub list : {A : Type 0} (a : Answer (List A)) → Fit (fields count-fields a) → unpack (packed count a) ≡ fields count-fields a
+  pub run : {S : Type 0} (a : Answer (Outcome S)) → Fit (fields end-fields a) → unpack (packed ending a) ≡ fields end-fields a
+
+-- Every answer of an entry fits: of programs handed in as text or as list, of words and tables, and of runs whose budget has 32 bits
+pub record AnswersFit : Type 0 where
+  pub read-program : (list text : Bytes) → Fit (fields program-fields (read-program-into list text))
+  pub write-program : (text list : Bytes) → Fit (fields count-fields (write-program-into text list))
+  pub translate : (word text : Bytes) → Fit (fields word-fields (translate-into word (read-text text)))
+  pub translate-list : (word list : Bytes) → Fit (fields word-fields (translate-into word (read-list list)))
+  pub runs-text : (s : SourceState) (budget : ℕ) → budget < 2 ^ 32 → (text : Bytes)
+      → Fit (fields end-fields (run-program (read-text text) s budget))
+  pub runs-list : (s : SourceState) (budget : ℕ) → budget < 2 ^ 32 → (list : Bytes)
+      → Fit (fields end-fields (run-program (read-list list) s budget))
+  pub read-word : (kinds operands : List ℕ) (word : Bytes) → Fit (fields count-fields (read-word-into kinds operands word))
+  pub write-word : (word : Bytes) (table : List Entry) → Fit (fields count-fields (write-word-into word table))
+  pub runs-word : (m : Memory) (p : Position) (budget : ℕ) → budget < 2 ^ 32 → (word : Bytes)
+      → Fit (fields end-fields (run-on m p budget (read-word-for (m .count) word)))
+  pub runs-table : (m : Memory) (p : Position) (budget : ℕ) → budget < 2 ^ 32 → (table : List Entry)
+      → Fit (fields end-fields (run-on m p budget (read-table-for (m .count) table)))

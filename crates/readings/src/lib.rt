@@ -1,1 +1,0 @@
-// How the definitions of crate `theory` read document 01: its other bench examples, and one for each place that is easily misread. No code.

@@ -1,0 +1,4 @@
+pub mod Puts
+pub mod Runs
+pub mod Numbers
+pub mod Entries
