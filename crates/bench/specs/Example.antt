@@ -14,10 +14,10 @@ use Rattle.theory.specs.Source as S
 use Rattle.theory.specs.Word as W
 use Rattle.theory.specs.Word.{Entry, bytes-of}
 use Rattle.theory.specs.Translation.{charge}
-use Rattle.theory.specs.Machines.{fresh-source, SourceState, run-source, Memory, refilled, Position, run-word, word-value}
+use Rattle.theory.specs.Machines.{fresh-source, SourceState, Memory, refilled, Position, word-value}
 use Rattle.theory.specs.TurnedDown.{Answer, done, refused, mapped, lend}
 use Rattle.theory.specs.TurnedDown.{lent-after, instructions, word-entries, sheet-fault, rule-9, rule-10}
-use Rattle.theory.specs.TurnedDown.{read-text, read-list, read-word, read-table, read-word-for, read-table-for}
+use Rattle.theory.specs.TurnedDown.{read-text, read-list, read-word, read-table, read-word-for, read-table-for, run-program, run-on}
 use Rattle.theory.specs.RunTool.{report}
 use Rattle.theory.specs.declared.Refusal.{Refusal}
 use Rattle.theory.specs.declared.End.{End}
@@ -102,8 +102,8 @@ Holds (names t is) = mapped (map indices) (read-text (bytes t)) ≡ done is
 Holds (row r) = T.Holds r
 Holds (charges t ss l) = mapped (λ p. map (λ s. charge p (s .state)) ss) (read-text (bytes t)) ≡ done l
 Holds (runs t s budget e) =
-    mapped (λ p. show-source (length (e .values)) (length (e .passes)) (run-source p s budget)) (read-text (bytes t)) ≡ done e
-Holds (word-runs w m p budget e) = mapped (λ t. show-word m (run-word (instructions t) m p budget)) (read-word (bytes w)) ≡ done e
+    mapped (show-source (length (e .values)) (length (e .passes))) (run-program (read-text (bytes t)) s budget) ≡ done e
+Holds (word-runs w m p budget e) = mapped (show-word m) (run-on m p budget (read-word-for (m .count) (bytes w))) ≡ done e
 Holds (valued w q rs v) =
     Option·map bytes-of (word-value (instructions (word-entries (bytes w))) (record { place = q; registers = T.from rs })) ≡ v
 Holds (numbers l expected) = l ≡ expected

@@ -108,6 +108,8 @@ programs =
     (gives empty-while-word Halted 1 (0 ∷ []) (T.shows Halted 3 (pos 6) ("" ∷ []))))
     ∷ row (T.program "X0 <- X1\n" 2 (0 ∷ 2 ∷ [])
     (gives filling-copy-word Halted 1 (2 ∷ 2 ∷ []) (T.shows Halted 21 (pos 14) ("11" ∷ "11" ∷ []))))
+    ∷ row (T.program "X0 <- X1\n" 2 (0 ∷ 3 ∷ [])  -- a copy that doesn't fit, from values that rule 9 turns down
+    (gives filling-copy-word Full 0 (0 ∷ 3 ∷ []) (T.shows Full 12 (pos 7) ("11" ∷ "" ∷ []))))
     ∷ row (T.program "X0 <- X0 + 1\n" 2 (1 ∷ [])
     (gives ("1###" ∷ "1#" ∷ []) Halted 1 (2 ∷ []) (T.shows Halted 2 (pos 3) ("11" ∷ []))))
     ∷ row (T.program "X0 <- 0\n" 1024 (1 ∷ 7 ∷ [])  -- registers beyond its variables are empty
@@ -143,7 +145,6 @@ ends =
     ∷ runs "X0 <- X0 + 1\n" (fresh 2 4294967295 (2 ∷ [])) 1 (stands Spent 0 1 (2 ∷ []) [])
     ∷ runs "X0 <- X0 + 1\n" (fresh 2 0 (1 ∷ [])) 7 (stands Halted 1 2 (2 ∷ []) [])  -- a capacity filled exactly
     ∷ runs "X0 <- X1\n" (fresh 2 0 (0 ∷ 2 ∷ [])) 7 (stands Halted 1 2 (2 ∷ 2 ∷ []) [])
-    ∷ runs "X0 <- X1\n" (fresh 2 0 (0 ∷ 3 ∷ [])) 7 (stands Full 0 1 (0 ∷ 3 ∷ []) [])  -- of a state that rule 9 turns down
     ∷ runs "" (fresh 1024 4294967295 []) 0 (stands Halted 0 1 [] [])  -- halted before spent
     ∷ runs "X0 <- 0\n" (fresh 1024 4294967295 (1 ∷ [])) 7 (stands Spent 0 1 (1 ∷ []) [])  -- the count at its end
     ∷ runs "X0 <- 0\nX0 <- 0\n" (fresh 1024 4294967294 (1 ∷ [])) 7 (stands Spent 1 2 (0 ∷ []) [])
