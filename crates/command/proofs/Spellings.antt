@@ -4,28 +4,36 @@ use mathlib.Core.List.{[], _∷_, _++_, append-assoc}
 use Prim.Native.Nat.{ℕ, _+_, _<_, _≤_, _/_, _%_}
 use native.Mathlib.Omega.{arith}
 use borrow.Author.Tests.{ne-eqb}
-use lib.ListN.{length, length-append}
-use Rattle.theory.specs.Text.{bytes, LF, decimal, name-of}
+use lib.ListN.{length, take, drop}
+use lib.Seq.{take-append-seam}
+use Rattle.theory.specs.Text.{Bytes, bytes, LF, name-of}
 use Rattle.theory.specs.ProgramText.{clear, increment, copy, loop, while, Command, plain, opens, closes, spelling, numbers}
 use Rattle.theory.proofs.Numerals.{decimal-small, decimal-large}
+use Rattle.text.specs.Puts.{most, Put}
+use Rattle.text.proofs.Puts.{sets-front}
 use Rattle.command.specs.Spellings.{command-line}
 
 -- Names
 
--- One digit more for a number of ten or more
-digits-more : (i : ℕ) → 10 ≤ i → length (name-of i) ≡ length (name-of (i / 10)) + 1
-unfolding name-of
-digits-more i h = rw (decimal-large i h) (omega (arith, length-append (decimal (i / 10)) ((48 + i % 10) ∷ [])))
-
-pub name-one : (i : ℕ) → i < 10 → length (name-of i) ≡ 2
+pub name-one : (i : ℕ) → i < 10 → name-of i ≡ 88 ∷ (48 + i) ∷ []
 unfolding name-of
 name-one i h = rw (decimal-small i h)
 
-pub name-two : (i : ℕ) → 10 ≤ i → i < 100 → length (name-of i) ≡ 3
-name-two i h k = omega (arith, digits-more i h, name-one (i / 10) (omega arith))
+pub name-two : (i : ℕ) → 10 ≤ i → i < 100 → name-of i ≡ 88 ∷ (48 + i / 10) ∷ (48 + i % 10) ∷ []
+unfolding name-of
+name-two i h k = rw (decimal-large i h, decimal-small (i / 10) (omega arith))
 
-pub name-three : (i : ℕ) → 100 ≤ i → i < 1000 → length (name-of i) ≡ 4
-name-three i h k = omega (arith, digits-more i (omega arith), name-two (i / 10) (omega arith) (omega arith))
+pub name-three : (i : ℕ) → 100 ≤ i → i < 1000 → name-of i ≡ 88 ∷ (48 + i / 100) ∷ (48 + i / 10 % 10) ∷ (48 + i % 10) ∷ []
+unfolding name-of
+name-three i h k =
+    let hundreds : i / 10 / 10 ≡ i / 100 = omega arith in
+    rw (decimal-large i (omega arith), decimal-large (i / 10) (omega arith), decimal-small (i / 10 / 10) (omega arith), hundreds)
+
+-- Bytes put at the front of an output that has room for them are its first
+pub put-front : {u l m : Bytes} {j : ℕ} → Put u 0 l m j → j ≤ length l → j < most → take j m ≡ u
+put-front {u} {l} {m} {j} p h k =
+    let all : j ≡ length u = omega (arith, p .next) in
+    rw (all, p .wrote, sets-front l u (omega arith)) (take-append-seam u (drop (length u) l))
 
 -- Lines, by kind
 
