@@ -11,7 +11,7 @@ use lib.ListN.{length, getD, drop, length-append, length-drop}
 use lib.Seq.{sets}
 use Rattle.theory.specs.Basics.{present, EachOf}
 use Rattle.theory.specs.Text.{Bytes, LF}
-use Rattle.theory.specs.ProgramText.{clear, increment, copy, loop, while, Command, plain, opens, closes, spelling, text-of, numbers}
+use Rattle.theory.specs.ProgramText.{Command, spelling, text-of}
 use Rattle.theory.specs.ProgramText.{command-of, listed}
 use Rattle.theory.specs.TurnedDown.{rule-1, program-fault, text-fault}
 use Rattle.theory.specs.Claims.{Accepted}

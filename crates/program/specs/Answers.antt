@@ -2,8 +2,8 @@
 use mathlib.Core.List.{List}
 use Prim.Native.Nat.{ℕ}
 use lib.ListN.{length}
-use Rattle.theory.specs.ProgramText.{Command, variables, text-of, list-of}
-use Rattle.theory.specs.TurnedDown.{Answer, done, refused, answer, after, mapped, rule-19, lend, read-text, read-list}
+use Rattle.theory.specs.ProgramText.{Command, variables}
+use Rattle.theory.specs.TurnedDown.{Answer, done, refused}
 use Rattle.program.specs.declared.Program.{Program}
 use Rattle.program.specs.declared.Checked.{Checked}
 use Rattle.program.specs.declared.Written.{Written}

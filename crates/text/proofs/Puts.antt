@@ -1,6 +1,6 @@
 -- Laws of bytes put at a place: one put after the other, what has no place, and where there is room for all.
 use mathlib.Core.Path.{_≡_, refl, sym, ap, _∙_}
-use mathlib.Core.List.{List, [], _∷_, _++_, append-nil}
+use mathlib.Core.List.{[], _∷_, _++_, append-nil}
 use mathlib.Core.Bool.{Bool, true, false}
 use Prim.Native.Nat.{ℕ, suc, _+_, _-_, _<_, _≤_, min}
 use native.Mathlib.Nat.{zero-add}
@@ -10,7 +10,7 @@ use lib.Dec.{ltb}
 use borrow.Author.Tests.{ltb-true, ltb-false}
 use lib.ListN.{length, getD, take, drop, set, replicate, length-append, length-take, length-drop, length-replicate}
 use lib.ListN.{replicate-append-replicate, take-append-drop}
-use lib.Seq.{sets, sets-eq, length-sets, set-out, take-suc, take-all, length-take-le}
+use lib.Seq.{sets, sets-eq, length-sets, set-out, take-suc, length-take-le}
 use Rattle.theory.specs.Text.{Bytes}
 use Rattle.theory.proofs.Writes.{sets-append}
 use Rattle.text.specs.Puts.{most, place, Put}

@@ -3,7 +3,7 @@ use mathlib.Core.Bool.{Bool, cond, not}
 use mathlib.Core.List.{List, [], _∷_}
 use Prim.Native.Nat.{ℕ, suc}
 use lib.Dec.{eqb}
-use Rattle.theory.specs.Text.{Bytes, LF}
+use Rattle.theory.specs.Text.{Bytes}
 
 -- How many stand at the front that pass the test
 unfoldable pub leading : {A : Type 0} → (A → Bool) → List A → ℕ

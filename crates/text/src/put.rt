@@ -1,7 +1,7 @@
 // Bytes put into an output from a place on, and the place after them. A byte that has no place in the output is counted and not written.
 ghost use mathlib.Core.Path.{_≡_};
 ghost use mathlib.Core.List.{[], _∷_, _++_};
-ghost use Prim.Native.Nat.{_+_, _-_, _%_, _≤_, min};
+ghost use Prim.Native.Nat.{_+_, _-_, _%_, _≤_};
 ghost use lib.ListN.{length, replicate, take};
 ghost use lib.Seq.{sets};
 ghost use Rattle.theory.specs.Text.{decimal};

@@ -6,7 +6,6 @@ use mathlib.Core.List.{List, [], _∷_, _++_, append-assoc, append-nil}
 use Prim.Native.Nat.{ℕ, _+_, _*_, _≤_, _<_}
 use native.Mathlib.Omega.{arith}
 use lib.ListN.{length, length-append}
-use Rattle.theory.specs.Limits
 use Rattle.theory.specs.ProgramText.{Plain, clear, increment, copy, Kind, loop, while, plain, opens, closes, variables}
 use Rattle.theory.specs.ProgramText.{Block, empty, single, pair, lines}
 use Rattle.theory.specs.Source.{deeper}

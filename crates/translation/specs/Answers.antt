@@ -5,7 +5,7 @@ use Prim.Native.Nat.{ℕ}
 use lib.ListN.{length}
 use Rattle.theory.specs.ProgramText.{Command}
 use Rattle.theory.specs.Translation.{word-of, word-text}
-use Rattle.theory.specs.TurnedDown.{Answer, done, refused, answer, after, mapped, rule-19, lent-after, translate-into}
+use Rattle.theory.specs.TurnedDown.{Answer, done, refused, mapped, lent-after, translate-into}
 use Rattle.translation.specs.declared.Size.{Size}
 use Rattle.translation.specs.declared.Translated.{Translated}
 use Rattle.translation.specs.declared.Translated.the-variants as T

@@ -1,5 +1,4 @@
 -- `program::write` meets its contract: the check, then the size, then the text.
-use native.Mathlib.Omega.{arith}
 use Rattle.program.proofs.Replies.{writes-fault, writes-faultless, writes-no-room, writes-done}
 use borrow.Author.Needs.{needs}
 use Rattle.program.proofs.write.Statement.{statement}
