@@ -1,16 +1,61 @@
 /*
  * mudzkvopi.h: LOOP/WHILE programs, their 1# words, and runs of both. Version 1.
  *
- * Link with libhost.a (x86-64, C99 or C++). Every call checks what it is given, ends, and is proved
- * to answer by the definitions in crates/theory/specs/. There is no state between calls, no
+ * A host that translates a program and runs its word (the tests compile and run it):
+ *
+ *     #include <stdio.h>
+ *     #include <string.h>
+ *     #include "mudzkvopi.h"
+ *
+ *     int main(void)
+ *     {
+ *         const char *text = "loop X1\nX0 <- X0 + 1\nendloop X1\n"; // K = 2: X0 and X1
+ *         static uint8_t word[1024], store[19 * 64];  // K + 17 registers of 64 symbols
+ *         uint16_t lengths[19] = { 0, 3 };            // X1 is register 2, and is to be 3
+ *         int32_t place = 1;
+ *         uint32_t steps = 0;
+ *         uint64_t r = mudzkvopi_translate((const uint8_t *)text, strlen(text), word, sizeof word);
+ *
+ *         if (MUDZKVOPI_WHAT(r) == MUDZKVOPI_REFUSED) {
+ *             printf("refused %u %u\n", MUDZKVOPI_RULE(r), MUDZKVOPI_PLACE(r));
+ *             return 1;
+ *         }
+ *         memset(store + 64, '1', 3);                 // "111" in register 2
+ *         r = mudzkvopi_run_word(19, 64, store, sizeof store, lengths, 19, &place, &steps,
+ *                                word, MUDZKVOPI_LOW(r), 1000000);
+ *         printf("%s after %u steps, X0 is %u\n",
+ *                MUDZKVOPI_WHAT(r) == MUDZKVOPI_HALTED ? "halted" : "stopped",
+ *                MUDZKVOPI_STEPS(r), (unsigned)lengths[0]);
+ *         return 0;
+ *     }
+ *
+ * It prints: halted after 37 steps, X0 is 3
+ *
+ * Link with libhost.a (x86-64, C99 or C++), which itself needs memcpy and memset and nothing else.
+ * Every call checks what it is given, ends, and is proved to answer by the definitions in
+ * crates/theory/specs/; no proof covers this header. There is no state between calls, no
  * allocation, no global and no file: calls may run in any threads at the same time, as long as no
- * two of them are lent the same memory. No call needs more than MUDZKVOPI_STACK_BYTES of stack.
+ * two of them are lent the same memory.
  *
  * Memory that you lend. A slice is a pointer and the number of its elements (not bytes). A pointer
  * is never NULL, also where its number is 0, and is aligned for its type. A slice that a call may
  * write (one without `const`) overlaps no other argument of the call. On a refusal nothing that was
  * lent has changed; else the result stands at the start of its slice, and the elements after the
  * result are as they were.
+ *
+ * In 64 KB. A program of K variables (HIGH of mudzkvopi_read_program) has a word that names no
+ * register above K + 17 (claim WordsFit), so a machine of that many is enough for it. In bytes:
+ *
+ *     a text of n bytes, or a word of n symbols          n
+ *     a program's list of n commands                     3 * n
+ *     a source state                                     204
+ *     a machine: store and lengths                       (K + 17) * (capacity + 2)
+ *     a table of n instructions: kinds and operands      5 * n
+ *
+ * With 3 variables and a capacity of 1024 a machine is 20520 bytes; 1000 instructions are 5000; and
+ * with a text of 1024, a word of 8192, a state, and 8192 of stack for translating, all is 43132.
+ * HIGH and LOW of mudzkvopi_translate are the instructions and the symbols of the word. Once it is
+ * read into a table the word need not be kept: mudzkvopi_run_table takes little stack.
  */
 #ifndef MUDZKVOPI_H
 #define MUDZKVOPI_H
@@ -23,8 +68,22 @@ extern "C" {
 #endif
 
 #define MUDZKVOPI_VERSION 1
-#define MUDZKVOPI_STACK_BYTES 65536      /* for any call */
-#define MUDZKVOPI_TABLE_STACK_BYTES 4096 /* for mudzkvopi_run_table, which copies nothing */
+
+/*
+ * Stack, in bytes, for each call. These are measured, not proved: tests/stack.c calls each with the
+ * deepest and longest program that is accepted and its word, and the tests fail where a call takes
+ * more. mudzkvopi_run_word reads the word into its own stack; mudzkvopi_run_table copies nothing.
+ */
+#define MUDZKVOPI_STACK_READ_PROGRAM 4096
+#define MUDZKVOPI_STACK_WRITE_PROGRAM 1024
+#define MUDZKVOPI_STACK_TRANSLATE 8192
+#define MUDZKVOPI_STACK_TRANSLATE_LIST 6144
+#define MUDZKVOPI_STACK_RUN_SOURCE 6144
+#define MUDZKVOPI_STACK_RUN_SOURCE_LIST 4096
+#define MUDZKVOPI_STACK_READ_WORD 1024
+#define MUDZKVOPI_STACK_WRITE_WORD 1024
+#define MUDZKVOPI_STACK_RUN_WORD 45056
+#define MUDZKVOPI_STACK_RUN_TABLE 2560
 
 /*
  * Results. A call answers with one number: bits 56 to 63 say what came of it, and the other bits go
@@ -57,8 +116,8 @@ enum mudzkvopi_what {
 
 /*
  * Rules, and their places. A call checks those that it lists, lower numbers first, but 4 to 7 line
- * by line, and so 16 to 18 after the size of the sheet. Lines count from 1. A list is judged by 3
- * to 8, each command as a line.
+ * by line. Lines count from 1. A list is judged by 3 to 8, each command as a line. 16 to 18 are the
+ * run tool's: no call here has a sheet, so they never come from C.
  */
 enum mudzkvopi_rule {
     MUDZKVOPI_TEXT_TOO_LONG = 1,   /* the text is over 16384 bytes (place 0) */
@@ -132,8 +191,8 @@ uint64_t mudzkvopi_translate_list(
 
 /*
  * Runs of a program. A state is 51 numbers. A fresh state has a capacity of 1 to 1024, line 1, the
- * values to start from, each at most the capacity, and 0 for all else; a run leaves the state from
- * which a later call goes on.
+ * values of the program's K variables to start from, each at most the capacity, and 0 for all else,
+ * the values from K on too; a run leaves the state from which a later call goes on.
  */
 #define MUDZKVOPI_STATE_NUMBERS 51
 #define MUDZKVOPI_STATE_CAPACITY 0 /* the most that a variable may hold */
@@ -160,9 +219,10 @@ uint64_t mudzkvopi_read_word(
     size_t operands_len);
 
 /*
- * Writes kinds and operands as a word. DONE: LOW the symbols. Rules 11, 13, 14, 19, whose places
- * here are instructions, from 0; 11 is no instruction or more than 600000 symbols, 13 a kind
- * outside 1 to 5, an operand of 0, or one that is missing because one slice is shorter.
+ * Writes kinds and operands as a word. DONE: LOW the symbols. Rules 11, 13, 14, 19, in this order,
+ * whose places here are instructions, from 0. 11: both slices are empty, or all kinds and operands,
+ * faulty ones too, sum above 600000. 13: a kind is outside 1 to 5 or an operand is 0; where one
+ * slice is shorter, what it lacks counts as 0, and so is 13 too.
  */
 uint64_t mudzkvopi_write_word(
     const uint8_t *kinds, size_t kinds_len, const uint32_t *operands, size_t operands_len,
@@ -184,9 +244,8 @@ uint64_t mudzkvopi_run_word(
 
 /*
  * The same for a word that was read into kinds and operands, which are run as they are lent: for
- * firmware that has little memory, or runs one word often. It needs no more stack than
- * MUDZKVOPI_TABLE_STACK_BYTES. Rules 10, 11, 13, 14, 15: 11 and 13 mean what they mean for
- * mudzkvopi_write_word, and places are instructions, from 0.
+ * firmware that has little memory, or runs one word often. Rules 10, 11, 13, 14, 15: 11 and 13 mean
+ * what they mean for mudzkvopi_write_word, and places are instructions, from 0.
  */
 uint64_t mudzkvopi_run_table(
     uint32_t registers, uint32_t capacity, uint8_t *store, size_t store_len, uint16_t *lengths,

@@ -69,12 +69,19 @@ static size_t stack_of(void (*entry)(void))
 
 int main(void)
 {
-    struct { const char *name; void (*entry)(void); } entries[] = {
-        { "read_program", read_program },       { "write_program", write_program },     { "translate", translate },
-        { "translate_list", translate_list },   { "run_source", run_source },           { "run_source_list", run_source_list },
-        { "read_word", read_word },             { "write_word", write_word },           { "run_word", run_word },
-        { "run_table", run_table },
+    struct { const char *name; void (*entry)(void); size_t most; } entries[] = {
+        { "read_program", read_program, MUDZKVOPI_STACK_READ_PROGRAM },
+        { "write_program", write_program, MUDZKVOPI_STACK_WRITE_PROGRAM },
+        { "translate", translate, MUDZKVOPI_STACK_TRANSLATE },
+        { "translate_list", translate_list, MUDZKVOPI_STACK_TRANSLATE_LIST },
+        { "run_source", run_source, MUDZKVOPI_STACK_RUN_SOURCE },
+        { "run_source_list", run_source_list, MUDZKVOPI_STACK_RUN_SOURCE_LIST },
+        { "read_word", read_word, MUDZKVOPI_STACK_READ_WORD },
+        { "write_word", write_word, MUDZKVOPI_STACK_WRITE_WORD },
+        { "run_word", run_word, MUDZKVOPI_STACK_RUN_WORD },
+        { "run_table", run_table, MUDZKVOPI_STACK_RUN_TABLE },
     };
+    int too_much = 0;
     size_t base = stack_of(version);
 
     for (int i = 0; i < 16; i++)
@@ -88,10 +95,8 @@ int main(void)
     state[MUDZKVOPI_STATE_VALUES + 31] = 5;
     for (size_t i = 0; i < sizeof entries / sizeof *entries; i++) {
         size_t bytes = stack_of(entries[i].entry) - base;
-        size_t most = entries[i].entry == run_table ? MUDZKVOPI_TABLE_STACK_BYTES : MUDZKVOPI_STACK_BYTES;
-        printf("%-16s %6zu bytes\n", entries[i].name, bytes);
-        if (bytes > most)
-            return 1;
+        printf("%-16s %6zu bytes, of %6zu in the header\n", entries[i].name, bytes, entries[i].most);
+        too_much |= bytes > entries[i].most;
     }
-    return 0;
+    return too_much;
 }

@@ -2,7 +2,7 @@
 //! smaller.
 
 #[cfg(feature = "library")]
-use crate::library::{self, RunTool};
+use crate::library::{self, Code, RunTool};
 use crate::machine::Machine;
 use crate::program::{self, list, variables, write, Command};
 use crate::source::{self, State};
@@ -227,6 +227,11 @@ impl Case {
             let mut out = vec![FILL; lent];
             Outcome { answer: call(&mut out), memory: numbers(&out) }
         };
+        let run = |machine: &Machine, code: Code, budget: u32| {
+            let mut machine = machine.clone();
+            let answer = library::run(&mut machine, code, budget);
+            Outcome { answer, memory: memory(&machine) }
+        };
         match self {
             Case::Convert { program: Program::Text(text), lent } => bytes(*lent, &|out| library::read_program(text, out)),
             Case::Convert { program: Program::List(list), lent } => bytes(*lent, &|out| library::write_program(list, out)),
@@ -246,16 +251,8 @@ impl Case {
                 Outcome { answer, memory: [numbers(&of_kinds), of_operands].concat() }
             }
             Case::WriteWord { kinds, operands, lent } => bytes(*lent, &|out| library::write_word(kinds, operands, out)),
-            Case::RunWord { word, machine, budget } => {
-                let mut machine = machine.clone();
-                let answer = library::run_word(&mut machine, word, *budget);
-                Outcome { answer, memory: memory(&machine) }
-            }
-            Case::RunTable { kinds, operands, machine, budget } => {
-                let mut machine = machine.clone();
-                let answer = library::run_table(&mut machine, kinds, operands, *budget);
-                Outcome { answer, memory: memory(&machine) }
-            }
+            Case::RunWord { word, machine, budget } => run(machine, Code::Word(word), *budget),
+            Case::RunTable { kinds, operands, machine, budget } => run(machine, Code::Table(kinds, operands), *budget),
             Case::Report { text, sheet } => printed(&tool.run(text, sheet)),
         }
     }

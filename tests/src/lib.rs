@@ -1,5 +1,7 @@
-//! The twin: document 01 implemented once more, from the document alone, in plain Rust. The library is held against it.
+//! The twin: document 01 once more in plain Rust, separate code, written from document 01 by the same hand as the definitions and after
+//! them. The library is held against it.
 
+pub mod believed;
 pub mod cases;
 pub mod edges;
 #[cfg(feature = "library")]

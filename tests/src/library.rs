@@ -109,41 +109,28 @@ pub fn write_word(kinds: &[u8], operands: &[u32], word: &mut [u8]) -> Answer {
     unpack(unsafe { mudzkvopi_write_word(kinds.as_ptr(), kinds.len(), operands.as_ptr(), operands.len(), word.as_mut_ptr(), word.len()) })
 }
 
-pub fn run_word(machine: &mut Machine, word: &[u8], budget: u32) -> Answer {
-    unpack(unsafe {
-        mudzkvopi_run_word(
-            machine.registers as u32,
-            machine.capacity as u32,
-            machine.store.as_mut_ptr(),
-            machine.store.len(),
-            machine.lengths.as_mut_ptr(),
-            machine.lengths.len(),
-            &mut machine.place,
-            &mut machine.steps,
-            word.as_ptr(),
-            word.len(),
-            budget,
-        )
-    })
+/// What a machine runs: a word, or the kinds and operands of a table.
+#[derive(Clone, Copy)]
+pub enum Code<'a> {
+    Word(&'a [u8]),
+    Table(&'a [u8], &'a [u32]),
 }
 
-pub fn run_table(machine: &mut Machine, kinds: &[u8], operands: &[u32], budget: u32) -> Answer {
+pub fn run(machine: &mut Machine, code: Code, budget: u32) -> Answer {
+    let Machine { registers, capacity, store, lengths, place, steps } = machine;
+    let (registers, capacity) = (*registers as u32, *capacity as u32);
+    let (store, size, lengths, count) = (store.as_mut_ptr(), store.len(), lengths.as_mut_ptr(), lengths.len());
     unpack(unsafe {
-        mudzkvopi_run_table(
-            machine.registers as u32,
-            machine.capacity as u32,
-            machine.store.as_mut_ptr(),
-            machine.store.len(),
-            machine.lengths.as_mut_ptr(),
-            machine.lengths.len(),
-            &mut machine.place,
-            &mut machine.steps,
-            kinds.as_ptr(),
-            kinds.len(),
-            operands.as_ptr(),
-            operands.len(),
-            budget,
-        )
+        match code {
+            Code::Word(word) => {
+                let (word, len) = (word.as_ptr(), word.len());
+                mudzkvopi_run_word(registers, capacity, store, size, lengths, count, place, steps, word, len, budget)
+            }
+            Code::Table(kinds, operands) => {
+                let (kinds, k, operands, o) = (kinds.as_ptr(), kinds.len(), operands.as_ptr(), operands.len());
+                mudzkvopi_run_table(registers, capacity, store, size, lengths, count, place, steps, kinds, k, operands, o, budget)
+            }
+        }
     })
 }
 

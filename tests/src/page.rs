@@ -1,4 +1,4 @@
-//! The examples of docs/REFUSALS.md, read from the page itself, as the cases that try them.
+//! The examples of docs/REFUSALS.md and docs/STUDENTS.md, read from the pages themselves, as the cases that try them.
 
 use crate::cases::{Case, Program};
 use crate::machine::{Machine, REGISTERS};
@@ -16,10 +16,11 @@ pub struct Example {
     pub answer: Refusal,
 }
 
-/// A quoted text with the escapes `\n`, `\r`, `\0`; and what follows it.
+/// A quoted text with the escapes `\n`, `\r`, `\t`, `\0` and `\BOM`, the byte-order mark; and what follows it.
 fn quoted(text: &str) -> (Vec<u8>, &str) {
     let end = text.find('"').expect("a quoted text ends");
-    let plain = text[..end].replace("\\n", "\n").replace("\\r", "\r").replace("\\0", "\0");
+    let escapes = [("\\n", "\n"), ("\\r", "\r"), ("\\t", "\t"), ("\\0", "\0"), ("\\BOM", "\u{feff}")];
+    let plain = escapes.iter().fold(text[..end].to_string(), |text, (written, meant)| text.replace(written, meant));
     (plain.into_bytes(), &text[end + 1..])
 }
 
@@ -32,8 +33,10 @@ fn times(text: &str) -> (usize, &str) {
 
 fn example(line: &str) -> Example {
     let (given, answer) = line.split_once(" -> ").expect("an answer");
-    let (number, place) = answer.split_once(' ').expect("number and place");
-    let answer = Refusal { number: number.parse().expect("a number"), place: place.parse().expect("a place") };
+    let mut answer = answer.split_whitespace();
+    let number = answer.next().and_then(|n| n.parse().ok()).expect("a number");
+    let place = answer.next().and_then(|n| n.parse().ok()).expect("a place, and behind it what is said of the example");
+    let answer = Refusal { number, place };
     let (kind, mut rest) = given.split_once(' ').unwrap_or((given, ""));
     let mut texts: Vec<Vec<u8>> = Vec::new();
     let mut numbers = vec![Vec::new()];

@@ -1,4 +1,4 @@
-//! What the run tool prints.
+//! What the run tool and the label tool print.
 
 use crate::machine::{Machine, REGISTERS};
 use crate::program::{read, variables};
@@ -31,9 +31,18 @@ fn runs(text: &[u8], sheet: &[u8]) -> Result<String, Refusal> {
     Ok(out)
 }
 
+fn printed(answer: Result<String, Refusal>) -> String {
+    answer.unwrap_or_else(|r| format!("refused {} {}\n", r.number, r.place))
+}
+
 /// The whole text, from the program's and the sheet's.
 pub fn report(text: &[u8], sheet: &[u8]) -> String {
-    runs(text, sheet).unwrap_or_else(|r| format!("refused {} {}\n", r.number, r.place))
+    printed(runs(text, sheet))
+}
+
+/// The word of a program's text, on a line.
+pub fn label(text: &[u8]) -> String {
+    printed(read(text).map(|commands| String::from_utf8_lossy(&spell(&translate(&commands))).into_owned() + "\n"))
 }
 
 /// The refusal that a printed text tells of.

@@ -3,17 +3,22 @@
 use std::fs;
 use std::path::Path;
 use twin::page::{self, Example};
-use twin::{tool, Answer};
+use twin::{believed, tool, Answer};
 
 fn at_root(name: &str) -> std::path::PathBuf {
     Path::new(env!("CARGO_MANIFEST_DIR")).join("..").join(name)
 }
 
+fn page(name: &str) -> String {
+    fs::read_to_string(at_root(name)).expect("the page")
+}
+
 fn examples() -> Vec<Example> {
-    let examples = page::examples(&fs::read_to_string(at_root("docs/REFUSALS.md")).expect("the page"));
+    let mut examples = page::examples(&page("docs/REFUSALS.md"));
     for rule in 1..=19 {
         assert!(examples.iter().any(|e| e.answer.number == rule), "the page has an example of {rule}");
     }
+    examples.extend(page::examples(&page("docs/STUDENTS.md")));
     examples
 }
 
@@ -44,5 +49,56 @@ fn example_folders() {
         let file = |name: &str| fs::read(folder.join(name)).unwrap_or_default();
         let printed = tool::report(&file("program.txt"), &file("sheet.txt"));
         assert_eq!(printed.as_bytes(), file("expected.txt"), "{}", folder.display());
+        assert_eq!(tool::label(&file("program.txt")).as_bytes(), file("label.txt"), "{}", folder.display());
+    }
+}
+
+/// The pages that show a program, its word and what is printed show those of examples/addition.
+#[test]
+fn addition_as_it_is_shown() {
+    let file = |name: &str| page(&format!("examples/addition/{name}"));
+    for shown in ["README.md", "docs/COURSE.md"] {
+        let shown = page(shown).lines().map(|l| l.trim().to_string() + "\n").collect::<String>();
+        for name in ["program.txt", "sheet.txt", "expected.txt", "label.txt"] {
+            assert!(shown.contains(&file(name)), "{name} of examples/addition");
+        }
+    }
+}
+
+/// The word that COURSE.md takes apart, one row of its table for each instruction, is the label of examples/addition.
+#[test]
+fn decoded_word() {
+    let course = page("docs/COURSE.md");
+    let (_, section) = course.split_once("## A word, decoded").expect("the section");
+    let rows = section.lines().skip_while(|l| !l.starts_with("| 1 |")).take_while(|l| l.starts_with('|'));
+    let word: String = rows.map(|row| row.split('|').nth(2).expect("a second cell").trim().trim_matches('`').to_string()).collect();
+    assert_eq!(word + "\n", page("examples/addition/label.txt"));
+}
+
+/// The students' page has every spelling that the program's reader takes.
+#[test]
+fn spellings() {
+    let students = page("docs/STUDENTS.md");
+    for line in ["X3 <- 0", "X3 <- X3 + 1", "X3 <- X5", "loop X3", "endloop X3", "while X3 != 0", "endwhile X3 != 0"] {
+        assert!(students.contains(&format!("`{line}`")), "{line}");
+        assert!(page("docs/REFUSALS.md").contains(&format!("`{line}`")), "{line}");
+    }
+}
+
+/// What must be believed is found in the repository, and is what the page says.
+#[test]
+fn what_must_be_believed() {
+    let (table, promises) = (believed::table(&at_root("")), page("docs/PROMISES.md"));
+    assert_eq!(believed::put_into(&promises, &table), promises, "docs/PROMISES.md: tests/believed writes it");
+}
+
+/// How the twin came to be is said in the same words wherever it is said.
+#[test]
+fn the_twin() {
+    let words = "separate code written from document 01 by the same hand as the definitions and after them";
+    for name in ["README.md", "docs/PROMISES.md", "docs/DECISIONS.md", "tests/src/lib.rs"] {
+        let text = page(name).replace("//!", " ").replace(" in Rust", "").replace(',', " ").to_lowercase();
+        let text = text.split_whitespace().collect::<Vec<_>>().join(" ");
+        assert!(text.contains(words), "{name}");
     }
 }

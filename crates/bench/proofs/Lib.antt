@@ -1,6 +1,1 @@
 pub mod TableHolds
-pub mod RefusalsHold
-pub mod ResultsHold
-pub mod OrdersHold
-pub mod BudgetsHold
-pub mod ExamplesHold

@@ -1,1 +1,1 @@
-// How the definitions of crate `theory` read document 01: its bench examples, and one for each place that is easily misread. No code.
+// The bench examples of document 01 that are marked P, computed from the definitions of crate `theory`. No code.

@@ -9,8 +9,8 @@ use Rattle.theory.specs.Basics.{given, or-else, and-then}
 use Rattle.theory.specs.Text.{Bytes, bytes, Found, same, name, name-of}
 use Rattle.theory.specs.ProgramText.{clear, increment, copy, loop, while, Command, plain, opens, closes, around, assigns}
 use Rattle.text.specs.Numbers.{found-in as read-in}
-use Rattle.text.specs.declared.read.Number.{Number}
-use Rattle.text.specs.declared.read.Number.the-variants.{To as Read-to, No as Read-no}
+use Rattle.text.specs.declared.Number.{Number}
+use Rattle.text.specs.declared.Number.the-variants.{To as Read-to, No as Read-no}
 use Rattle.command.specs.declared.Numbers.{Numbers}
 use Rattle.command.specs.declared.reading.Named.{Named}
 use Rattle.command.specs.declared.reading.Named.the-variants.{To, No}

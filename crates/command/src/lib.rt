@@ -1,10 +1,7 @@
-// A command as a line of a program's text and as three numbers (document 01, "The program text"): read from a line, and written as one.
+// A command as three numbers (document 01, "The program text"), read from a line of a program's text.
 mod reading;
-mod writing;
 
 pub use reading::numbers_of;
-pub use writing::command_size;
-pub use writing::put_command;
 
 // The kinds of commands, in the order of the spellings.
 pub const CLEAR: u8 = 1;

@@ -7,8 +7,7 @@ use crate::INCREMENT;
 use crate::LOOP;
 use crate::Numbers;
 use crate::WHILE;
-use text::read;
-use text::read::Number;
+use text::Number;
 ghost use mathlib.Core.Path.{_≡_};
 ghost use Prim.Native.Nat.{_+_, _≤_};
 ghost use lib.ListN.{length, drop};
@@ -33,7 +32,7 @@ const NO_COMMAND: Numbers = Numbers {
 fn name_at(s: &[u8], at: usize) -> Named
     ensures { λ r. ⌜ r ≡ found-in (length (now (s .entry))) (name (drop at (now (s .entry)))) ⌝ }
 {
-    match read::name(s, at, Numbers::INDEX as u64 + 1) {
+    match text::name(s, at, Numbers::INDEX as u64 + 1) {
         Number::To { end, value } => Named::To {
             end,
             index: value as u8,

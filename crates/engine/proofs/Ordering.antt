@@ -82,13 +82,18 @@ module _ (registers capacity : ℕ) (starts old : List ℕ) where
           let d : e - a ≡ capacity = omega arith in
           rw d (length-take-le capacity (drop a store) (omega (arith, length-drop a store, ordering-room)))
 
-      pub ordering-more : Starts registers capacity starts → (part : Bytes) → Turned (length (take (e - a) (drop a store))) (getD starts i 0) (take (e - a) (drop a store)) part
+      pub ordering-more : Starts registers capacity starts → (part : Bytes) → Turned (length (take (e - a) (drop a store)))
+          (getD starts i 0) (take (e - a) (drop a store)) part
           → Ordering (putMid a (e - a) store part) (i + 1)
       ordering-more s part t = record {
         within = omega arith;
         same = same-len-mid a (e - a) store part (t .same) ∙ o .same;
         done = λ j m. after j m (eqb j i) refl;
-        left = λ j m k n. put-after a e store part up ordering-room size (j * capacity + k) (omega (arith, place-ends i j capacity (omega arith)))
+        left = λ j m k n. put-after a e store part up ordering-room size (j * capacity + k) (omega (
+          arith,
+          place-ends i j capacity
+              (omega arith),
+        ))
             ∙ o .left j (omega arith) k n;
       }
         where
@@ -122,4 +127,5 @@ module _ (registers capacity : ℕ) (starts old : List ℕ) where
           after j m false q k n =
               let differ : j ≢ i = eqb-false j i q in
               let below : j < i = omega (arith, differ) in
-              put-before a e store part up ordering-room size (j * capacity + k) (omega (arith, place-ends j i capacity below)) ∙ o .done j below k n
+              put-before a e store part up ordering-room size (j * capacity + k) (omega (arith, place-ends j i capacity below))
+              ∙ o .done j below k n

@@ -233,7 +233,8 @@ module _ {capacity : ℕ} {f : ℕ → List Symbol} {store lengths starts : List
     ring-delete some = go xs refl
       where
         go : (ys : List Symbol) → xs ≡ ys
-            → Deleted capacity f i ys (getD store (i * capacity + s) 0) (set store (i * capacity + s) 0) (set lengths i (getD lengths i 0 - 1))
+            → Deleted capacity f i ys (getD store (i * capacity + s) 0) (set store (i * capacity + s) 0) (set lengths i
+            (getD lengths i 0 - 1))
             (set starts i (wrapped capacity (s + 1)))
         go [] e = absurd (omega (arith, ring-length, ap length e))
         go (x ∷ ys) e = (byte-is, rw count-is (ring-set ys s 0 (wrapped capacity (s + 1)) (omega (arith, room)) begins next here))
@@ -324,4 +325,5 @@ ring-held {capacity} {f} {store} {lengths} {starts} {store′} h o = record {
             → getD (take capacity (drop (i * capacity) store′)) k 0 ≡ getD (laid capacity (f (suc i))) k 0
         each k m =
             let n : k < capacity = omega (arith, whole) in
-            getD-take capacity (drop (i * capacity) store′) k 0 n ∙ getD-drop (i * capacity) store′ k 0 ∙ o .each i l k n ∙ h .stored i l k n
+            getD-take capacity (drop (i * capacity) store′) k 0 n ∙ getD-drop (i * capacity) store′ k 0 ∙ o .each i l k n
+            ∙ h .stored i l k n

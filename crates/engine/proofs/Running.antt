@@ -78,7 +78,8 @@ module _ (capacity : ℕ) (store₀ lengths₀ kinds operands : List ℕ) (from 
         counts = refl;
       }
 
-  module _ {store lengths starts : List ℕ} {here k : ℕ} (r : Running store lengths starts here k) (u : Usables (length lengths₀) kinds operands) where
+  module _ {store lengths starts : List ℕ} {here k : ℕ} (r : Running store lengths starts here k) (u : Usables
+      (length lengths₀) kinds operands) where
     abbrev s : W.State
     s = state here (r .registers)
 
@@ -104,7 +105,8 @@ module _ (capacity : ℕ) (store₀ lengths₀ kinds operands : List ℕ) (from 
       going : machine-of capacity kinds operands .ended s ≡ none
       going = ends none (inside-going (length kinds) here a b)
 
-      pub running-spent : k ≡ allowed → Stopped (λ f. Ring capacity f store lengths starts) outcome (record { end = Spent; steps = k; here = here })
+      pub running-spent : k ≡ allowed → Stopped (λ f. Ring capacity f store lengths starts) outcome
+          (record { end = Spent; steps = k; here = here })
       running-spent e =
           ⊎-elim
           (λ (z : allowed ≡ budget). stops Spent
@@ -151,7 +153,8 @@ module _ (capacity : ℕ) (store₀ lengths₀ kinds operands : List ℕ) (from 
         pub running-step : {store′ lengths′ starts′ : List ℕ} (there : ℕ)
             → ((i : W.Instruction) → W.kind i ≡ getD kinds (here - bias - 1) 0 → W.operand i ≡ getD operands (here - bias - 1) 0
             → Performed capacity (r .registers) here i (Step.To there) store′ lengths′ starts′)
-            → length kinds ≤ 8192 → length store′ ≡ length store → length lengths′ ≡ length lengths → Running store′ lengths′ starts′ there (k + 1)
+            → length kinds ≤ 8192 → length store′ ≡ length store → length lengths′ ≡ length lengths
+            → Running store′ lengths′ starts′ there (k + 1)
         running-step there did small st le =
             let (i, is, kind, operand) = here-is in
             let (g, went, held, near) = did i kind operand in

@@ -68,7 +68,7 @@ pub fn run_numbers(
     if !is_memory(m, store, lengths) {
         return turned_down(at, 10, 0);
     }
-    match word::check(kinds, operands) {
+    match table::check(kinds, operands) {
         Read::Done(_) => run_readable(m, store, lengths, at, kinds, operands, budget),
         Read::Refused(r) => Run {
             position: at,

@@ -10,12 +10,11 @@ use Rattle.theory.specs.Word.{Entry}
 use Rattle.theory.specs.Translation.{word-text}
 use Rattle.theory.specs.Machines.{Memory}
 use Rattle.theory.specs.TurnedDown.{Answer, after, mapped, lent-after, read-program-into, write-program-into, read-word-into}
-use Rattle.source.specs.Answers.{source-state, moved-by}
 use Rattle.word.specs.Answers as Words
+use Rattle.states.specs.Numbers.{run-numbers, LentAfter}
 use Rattle.memory.specs.Calls.{position, answered}
 use Rattle.memory.specs.declared.answers.Position.{Position}
 use Rattle.packing.specs.Packed.{packed, commands, sizes, count, ending}
-use Rattle.host.specs.States.{state-of, run-numbers, numbers-by}
 
 -- A text read into a lent list of three numbers a command: the variables and the commands
 pub record ReadsProgram (text : Bytes) (list : List ℕ) (r : ℕ) (list′ : List ℕ) : Type 0 where
@@ -32,12 +31,10 @@ pub record Translates (A : Answer (List Command)) (word : Bytes) (r : ℕ) (word
   pub result : r ≡ packed sizes (translate-into word A)
   pub word-after : word′ ≡ lent-after word (mapped word-text (translate-into word A))
 
--- A program handed in as A, run from a state of 51 numbers: how the run ended, with its steps. `numbers-after` fixes every number of the
--- state, and `stands` says that they are the definitions' state and no part of that: from there a later call goes on
+-- A program handed in as A, run from a state that is lent as 51 numbers: how the run ended, with its steps; and the numbers then
 pub record RunsSource (A : Answer (List Command)) (numbers : List ℕ) (budget r : ℕ) (numbers′ : List ℕ) : Type 0 where
   pub result : r ≡ packed ending (after A (run-numbers numbers budget))
-  pub numbers-after : numbers′ ≡ numbers-by numbers (after A (run-numbers numbers budget))
-  pub stands : source-state (state-of numbers′) ≡ moved-by (source-state (state-of numbers)) (after A (run-numbers numbers budget))
+  pub state-after : LentAfter numbers (after A (run-numbers numbers budget)) numbers′
 
 -- A machine as it is lent, and where it stands
 abbrev pub lent : ℕ → ℕ → Bytes → List ℕ → Memory

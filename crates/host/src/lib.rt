@@ -1,7 +1,5 @@
 // The library for the tablets' host: entries on numbers and slices, to be called from C by include/mudzkvopi.h. Each entry hands its
 // arguments on to the crate that does the work, and packs what comes back into one number.
-mod states;
-
 use memory::Machine;
 use memory::Position;
 ghost use mathlib.Core.Path.{_≡_};
@@ -55,16 +53,7 @@ pub extern "C" fn mudzkvopi_translate_list(list: &[u8], word: &mut [u8]) -> u64
 pub extern "C" fn mudzkvopi_run_source(text: &[u8], state: &mut [u32], budget: u32) -> u64
     ensures { λ r. ⌜ RunsSource (read-text (now (text .entry))) (now (state .entry)) budget r (now (state .exit)) ⌝ }
 {
-    if state.len() != states::NUMBERS {
-        let run = source::run_text(text, states::none(), 0);
-        let ended = run.ended;
-        return packing::source_ended(ended);
-    }
-    let run = source::run_text(text, states::state_of(&*state), budget);
-    let next = run.state;
-    let ended = run.ended;
-    states::put_state(next, &mut *state);
-    packing::source_ended(ended)
+    packing::source_ended(states::run_text(text, &mut *state, budget))
 }
 
 // A program handed in as a list, run so: rules 3 to 8, then 9.
@@ -72,16 +61,7 @@ pub extern "C" fn mudzkvopi_run_source(text: &[u8], state: &mut [u32], budget: u
 pub extern "C" fn mudzkvopi_run_source_list(list: &[u8], state: &mut [u32], budget: u32) -> u64
     ensures { λ r. ⌜ RunsSource (read-list (now (list .entry))) (now (state .entry)) budget r (now (state .exit)) ⌝ }
 {
-    if state.len() != states::NUMBERS {
-        let run = source::run_list(list, states::none(), 0);
-        let ended = run.ended;
-        return packing::source_ended(ended);
-    }
-    let run = source::run_list(list, states::state_of(&*state), budget);
-    let next = run.state;
-    let ended = run.ended;
-    states::put_state(next, &mut *state);
-    packing::source_ended(ended)
+    packing::source_ended(states::run_list(list, &mut *state, budget))
 }
 
 // A word read into kinds and operands: rules 11 to 14, then 19.
@@ -98,7 +78,7 @@ pub extern "C" fn mudzkvopi_read_word(word: &[u8], kinds: &mut [u8], operands: &
 pub extern "C" fn mudzkvopi_write_word(kinds: &[u8], operands: &[u32], word: &mut [u8]) -> u64
     ensures { λ r. ⌜ WritesWord (zipped (now (kinds .entry)) (now (operands .entry))) (now (word .entry)) r (now (word .exit)) ⌝ }
 {
-    packing::word_written(word::write(kinds, operands, &mut *word))
+    packing::word_written(table::write(kinds, operands, &mut *word))
 }
 
 // A word run on a lent machine, from a lent place and count of steps: rule 10, then 11 to 15.

@@ -11,8 +11,9 @@ use Rattle.theory.specs.Word.{Entry}
 use Rattle.theory.specs.Machines.{Memory, is-memory}
 use Rattle.theory.specs.TurnedDown.{answer, done, refused, read-table, read-table-for, table-fault, rule-10, lent-after, for-machine}
 use Rattle.theory.specs.declared.Refusal.{Refusal}
-use Rattle.word.specs.declared.answers.Gathered.{Gathered}
-use Rattle.word.specs.Answers.{kinds-of, operands-of, read-answer, gathered, no-numbers}
+use Rattle.records.specs.declared.Gathered.{Gathered}
+use Rattle.word.specs.Answers.{kinds-of, operands-of, read-answer}
+use Rattle.records.specs.Answers.{gathered, no-numbers}
 use Rattle.memory.specs.declared.answers.Position.{Position}
 use Rattle.memory.specs.Calls.{called, handed, refused-at, after-10, table-called}
 

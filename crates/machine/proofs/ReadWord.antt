@@ -23,7 +23,7 @@ use Rattle.theory.proofs.Words.{GoodTable, formed-of-word, total-length, word-r
 use Rattle.word.specs.declared.answers.Read.{Read}
 use Rattle.word.specs.declared.answers.Read.the-variants as R
 use Rattle.word.specs.Answers.{kinds-of, operands-of, zipped, read-answer, Reads}
-use Rattle.word.proofs.Gathers.{zipped-self}
+use Rattle.word.proofs.Zipped.{zipped-self}
 use Rattle.memory.specs.declared.answers.Position.{Position}
 use Rattle.memory.specs.Calls.{called, handed, refused-at, after-10, word-called}
 use Rattle.machine.specs.ByByte.{word-for}

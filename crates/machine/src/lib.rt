@@ -6,7 +6,8 @@ ghost use Prim.Native.Nat.{_≤_};
 ghost use lib.ListN.{length, take};
 ghost use Rattle.theory.specs.Word.{Entry};
 ghost use Rattle.theory.specs.TurnedDown.{total, table-fault, for-machine};
-ghost use Rattle.word.specs.Answers.{zipped, gathered, entries-of};
+ghost use Rattle.word.specs.Answers.{zipped, entries-of};
+ghost use Rattle.records.specs.Answers.{gathered};
 ghost use Rattle.memory.specs.Calls.{memory, handed, called, word-called, table-called, refused-at, after-10, moved-to};
 ghost use Rattle.machine.specs.ByByte.{word-for, by-byte, Paired};
 use memory::Ended;
@@ -14,8 +15,8 @@ use memory::Machine;
 use memory::Position;
 use memory::Run;
 use memory::is_memory;
+use records::Gathered;
 use theory::Refusal;
-use word::Gathered;
 use word::Instruction;
 use word::Read;
 
@@ -177,7 +178,7 @@ pub fn run_table(
     ensures { λ r. ⌜ handed r (now (store .exit)) (now (lengths .exit))
         ≡ table-called (memory m (now (store .entry)) (now (lengths .entry))) at budget (entries-of (now (table .entry))) ⌝ }
 {
-    run_gathered(m, store, lengths, at, word::gather(table), budget)
+    run_gathered(m, store, lengths, at, records::gather(table), budget)
 }
 
 // The two parts of what a run hands back.

@@ -3,3 +3,5 @@ pub mod Places
 pub mod Rule10
 pub mod RegisterOne
 pub mod Values
+pub mod Filling
+pub mod CanHold

@@ -1,6 +1,10 @@
 // The types that this crate's entries take and hand back, with the limits and the fresh state.
 ghost use mathlib.Core.Path.{_≡_};
 ghost use lib.IntN.{pos};
+ghost use Rattle.memory.specs.Calls.{memory};
+ghost use Rattle.memory.specs.Fresh.{LaysFresh};
+use crate::fresh::fill;
+use crate::fresh::fits;
 use theory::End;
 use theory::Refusal;
 
@@ -31,6 +35,28 @@ impl Machine {
     pub const REGISTERS: usize = 64;
 
     pub const CAPACITY: usize = 1024;
+
+    // A fresh word's registers, laid out in a lent store and lengths: register i + 1 holds as many 1s as value i, and every other register
+    // is empty. Rule 10 where the sizes are not the machine's, or a value has no register that can hold it.
+    pub fn fresh(m: Machine, store: &mut [u8], lengths: &mut [u16], values: &[u32]) -> Laid
+        ensures { λ r. ⌜ LaysFresh (memory m (now (store .entry)) (now (lengths .entry))) (now (values .entry))
+            r (now (store .exit)) (now (lengths .exit)) ⌝ }
+    {
+        if !fits(m, &*store, &*lengths, values) {
+            return Laid::Refused(Refusal {
+                number: 10,
+                place: 0,
+            });
+        }
+        fill(store, lengths, m.capacity, values);
+        Laid::Done
+    }
+}
+
+// A fresh word's registers stand in the lent memory, or why not.
+pub enum Laid {
+    Done,
+    Refused(Refusal),
 }
 
 // How a run ended, and the steps taken; or why it was turned down.

@@ -4,7 +4,7 @@ ghost use lib.Dec.{eqb};
 ghost use lib.ListN.{length};
 ghost use Rattle.theory.specs.Basics.{all};
 ghost use Rattle.theory.specs.Word.{is-symbol};
-ghost use Rattle.theory.specs.Machines.{is-laid, is-memory};
+ghost use Rattle.theory.specs.Machines.{is-laid, is-sized, is-memory};
 ghost use Rattle.memory.specs.Held.{Sized, places-laid};
 ghost use Rattle.memory.specs.Calls.{memory};
 use crate::answers::Machine;
@@ -79,9 +79,9 @@ fn all_laid(store: &[u8], lengths: &[u16], capacity: usize) -> bool
     true
 }
 
-// Rule 10: the sizes are within the limits, and the store and the lengths are as laid down.
-pub fn is_memory(m: Machine, store: &[u8], lengths: &[u16]) -> bool
-    ensures { λ r. ⌜ r ≡ is-memory (memory m (now (store .entry)) (now (lengths .entry))) ⌝ }
+// Rule 10's sizes: they are within the limits, and the store and the lengths have them.
+pub fn is_sized(m: Machine, store: &[u8], lengths: &[u16]) -> bool
+    ensures { λ r. ⌜ r ≡ is-sized (memory m (now (store .entry)) (now (lengths .entry))) ⌝ }
 {
     let registers = m.registers;
     let capacity = m.capacity;
@@ -100,8 +100,15 @@ pub fn is_memory(m: Machine, store: &[u8], lengths: &[u16]) -> bool
     if store.len() != registers * capacity {
         return false;
     }
-    if lengths.len() != registers {
+    lengths.len() == registers
+}
+
+// Rule 10: the sizes, and the places as laid down.
+pub fn is_memory(m: Machine, store: &[u8], lengths: &[u16]) -> bool
+    ensures { λ r. ⌜ r ≡ is-memory (memory m (now (store .entry)) (now (lengths .entry))) ⌝ }
+{
+    if !is_sized(m, store, lengths) {
         return false;
     }
-    all_laid(store, lengths, capacity)
+    all_laid(store, lengths, m.capacity)
 }

@@ -1,8 +1,10 @@
 // The memory of a machine of document 01, "Machines of the set": what a call is lent, rule 10, the value, and what a run hands back.
 mod answers;
+mod fresh;
 mod layout;
 
 pub use answers::Ended;
+pub use answers::Laid;
 pub use answers::Machine;
 pub use answers::Position;
 pub use answers::Run;

@@ -8,7 +8,7 @@ use native.Mathlib.Omega.{arith}
 use lib.Dec.{leb}
 use lib.ListN.{length, length-map}
 use Rattle.theory.specs.Text.{Bytes}
-use Rattle.theory.specs.ProgramText.{Command, text-of, list-of, listed}
+use Rattle.theory.specs.ProgramText.{Command, text-of, list-of, listed, commands}
 use Rattle.theory.specs.Runs.{Outcome}
 use Rattle.theory.specs.Source as S
 use Rattle.theory.specs.Word as W
@@ -85,7 +85,7 @@ unfolding read-text
 text-program t e = reads-accepted .0 t (present (text-lines t)) (rw e)
 
 list-program : (l : Bytes) → program-fault (listed l) ≡ none → Accepted (present (listed l))
-unfolding read-list
+unfolding read-list commands
 list-program l e = reads-accepted .1 l (present (listed l)) (rw e)
 
 read-program-fits : (list text : Bytes) → Fit (fields program-fields (read-program-into list text))
@@ -96,7 +96,7 @@ read-program-fits list text =
     (λ e. fit-answer program-fields (rule-19 list (list-of p)) p (no-room-low list (list-of p)) (λ f. program-fit p (text-program text e)))
 
 write-program-fits : (text list : Bytes) → Fit (fields count-fields (write-program-into text list))
-unfolding write-program-into read-list
+unfolding write-program-into read-list commands
 write-program-fits text list =
     let p = present (listed list) in
     fit-lent (program-fault (listed list)) p text-of text (program-low (listed list))
@@ -110,7 +110,7 @@ translate-fits word text =
     (λ e. fit-answer word-fields (rule-19 word (word-text p)) p (no-room-low word (word-text p)) (λ f. word-fit p (text-program text e)))
 
 translate-list-fits : (word list : Bytes) → Fit (fields word-fields (translate-into word (read-list list)))
-unfolding translate-into read-list
+unfolding translate-into read-list commands
 translate-list-fits word list =
     let p = present (listed list) in
     fit-after word-fields (program-fault (listed list)) p (λ q. answer (rule-19 word (word-text q)) q) (program-low (listed list))
@@ -171,7 +171,7 @@ run-fits m p budget b o t l = go (is-memory m) o l
     go true (some r) l = fit-refused (end-fields {S = W.State}) r l
 
 pub answers-fit : AnswersFit
-unfolding read-text read-list read-word-for read-table-for
+unfolding read-text read-list commands read-word-for read-table-for
 answers-fit =
     record {
       read-program = read-program-fits;

@@ -11,8 +11,8 @@ use Rattle.word.specs.declared.answers.Written as Word
 use Rattle.word.specs.declared.answers.Written.the-variants as WordWritten
 use Rattle.translation.specs.declared.Translated.{Translated}
 use Rattle.translation.specs.declared.Translated.the-variants as Translated
-use Rattle.source.specs.declared.Ended as Source
-use Rattle.source.specs.declared.Ended.the-variants as SourceEnded
+use Rattle.source.specs.declared.answers.Ended as Source
+use Rattle.source.specs.declared.answers.Ended.the-variants as SourceEnded
 use Rattle.memory.specs.declared.answers.Ended as Machine
 use Rattle.memory.specs.declared.answers.Ended.the-variants as MachineEnded
 use Rattle.packing.specs.Packed.{pack, end-number}

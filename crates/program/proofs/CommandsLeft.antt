@@ -19,11 +19,11 @@ use Rattle.theory.proofs.Faults.{none-first, unless-none}
 use Rattle.theory.proofs.Nesting.{LowIndices, low, nothing-missing}
 use Rattle.theory.proofs.Lists.{numbers-of}
 use Rattle.theory.proofs.Texts.{text-accepted}
-use Rattle.text.specs.Puts.{most, Put}
-use Rattle.command.specs.Spellings.{command-line}
+use Rattle.output.specs.Puts.{most, Put}
+use Rattle.spelling.specs.Spellings.{command-line}
 use Rattle.program.proofs.ListCheck.{three-at}
-use Rattle.text.proofs.Puts.{put-nothing, put-then}
-use Rattle.command.proofs.Spellings.{line-spelled}
+use Rattle.output.proofs.Puts.{put-nothing, put-then}
+use Rattle.spelling.proofs.Spellings.{line-spelled}
 
 -- The commands from place m of a list on
 pub record Left (l : List ℕ) (m : ℕ) : Type 0 where

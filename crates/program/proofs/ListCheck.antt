@@ -6,18 +6,18 @@ use Prim.Native.Nat.{ℕ, suc, _+_, _*_, _<_, _≤_, max}
 use native.Mathlib.Numerals.{add-one, add-two, add-three}
 use native.Mathlib.Omega.{arith}
 use borrow.Author.Tests.{le-leb, lt-leb}
-use lib.ListN.{length, getD, drop, length-drop, drop-of-length-le}
+use lib.ListN.{length, getD, set, drop, replicate, length-set, length-drop, drop-of-length-le}
 use lib.Seq.{drop-cons}
 use Rattle.theory.specs.Basics.{present}
 use Rattle.theory.specs.ProgramText as P
-use Rattle.theory.specs.ProgramText.{Command, variables, command-of, listed}
+use Rattle.theory.specs.ProgramText.{Command, variables, command-of, listed, commands}
 use Rattle.theory.specs.TurnedDown.{rule-3, line-fault, lines-fault, program-fault, read-list}
 use Rattle.theory.specs.declared.Refusal.{Refusal}
 use Rattle.program.specs.declared.Checked.the-variants.{Accepted, Refused}
-use Rattle.program.specs.declared.nest.Nest.{Nest}
+use Rattle.program.specs.declared.nest.Opening.{Opening}
 use Rattle.program.specs.Answers.{checked}
-use Rattle.program.specs.Nesting.{innermost, open-pairs, no-pairs, Follows, at-end}
-use Rattle.program.proofs.Pairs.{Known, known, passed-known}
+use Rattle.program.specs.Nesting.{nothing, innermost, count-after, at-end}
+use Rattle.program.proofs.Pairs.{Known, known, passed-known, Follows, follows}
 
 -- The three numbers at m, and the rest
 pub three-at : (l : List ℕ) (m : ℕ) → m + 2 < length l → drop m l ≡ getD l m 0 ∷ getD l (m + 1) 0 ∷ getD l (m + 2) 0 ∷ drop (m + 3) l
@@ -43,7 +43,7 @@ listed-many (k ∷ i ∷ j ∷ l) = let h = listed-many l in (omega arith, omega
 -- Rule 3, and the answer where it does not apply
 
 pub too-many : (l : List ℕ) → 1536 < length l → Refused (record { number = 3; place = 513 }) ≡ checked (read-list l)
-unfolding read-list program-fault rule-3
+unfolding read-list commands program-fault rule-3
 too-many l h = rw (lt-leb (length (listed l)) 512 (omega (arith, listed-many l .0)))
 
 module _ (l : List ℕ) (short : length l ≤ 1536) where
@@ -52,27 +52,29 @@ module _ (l : List ℕ) (short : length l ≤ 1536) where
   few = rw (le-leb (length (listed l)) 512 (omega (arith, listed-many l .1)))
 
   refused-by : (r : Refusal) → lines-fault 1 [] (listed l) ≡ some r → Refused r ≡ checked (read-list l)
-  unfolding read-list
+  unfolding read-list commands
   refused-by r e = rw (few, e)
 
   accepted-as : (n K : ℕ) → lines-fault 1 [] (listed l) ≡ none → n ≡ length (present (listed l)) → K ≡ variables (present (listed l))
       → Accepted (record { lines = n; variables = K }) ≡ checked (read-list l)
-  unfolding read-list
+  unfolding read-list commands
   accepted-as n K e f g = rw (few, e, f, g)
 
--- Before command n + 1: s has the pairs then open, K is that of the commands before, and the faults left are those of the whole list
-pub record SoFar (l : List ℕ) (n K : ℕ) (s : Nest) : Type 0 where
+-- Before command n + 1: os has the openings, of which d pairs are open, K is that of the commands before, and the faults left are those of
+-- the whole list
+pub record SoFar (l : List ℕ) (n K d : ℕ) (os : List Opening) : Type 0 where
   pub within : 3 * n ≤ length l
-  pub room : s .count ≤ 16
-  pub rest : lines-fault (n + 1) (open-pairs s) (listed (drop (3 * n) l)) ≡ lines-fault 1 [] (listed l)
+  pub room : d ≤ 16
+  pub places : length os ≡ 18
+  pub rest : lines-fault (n + 1) (innermost d os) (listed (drop (3 * n) l)) ≡ lines-fault 1 [] (listed l)
   pub commands : n + length (present (listed (drop (3 * n) l))) ≡ length (present (listed l))
   pub names : max K (variables (present (listed (drop (3 * n) l)))) ≡ variables (present (listed l))
 
-pub at-first : (l : List ℕ) → SoFar l 0 0 no-pairs
+pub at-first : (l : List ℕ) → SoFar l 0 0 0 (replicate 18 nothing)
 unfolding innermost
-at-first l = record { within = omega arith; room = omega arith; rest = refl; commands = omega arith; names = omega arith }
+at-first l = record { within = omega arith; room = omega arith; places = refl; rest = refl; commands = omega arith; names = omega arith }
 
-module _ (l : List ℕ) (n K : ℕ) (s : Nest) (h : SoFar l n K s) where
+module _ (l : List ℕ) (n K d : ℕ) (os : List Opening) (h : SoFar l n K d os) where
   abbrev here : Option Command
   here = command-of (getD l (3 * n) 0) (getD l (3 * n + 1) 0) (getD l (3 * n + 2) 0)
 
@@ -83,23 +85,29 @@ module _ (l : List ℕ) (n K : ℕ) (s : Nest) (h : SoFar l n K s) where
         let e : 3 * n + 3 ≡ 3 * (n + 1) = omega arith in
         rw (three-at l (3 * n) more, e)
 
-    verdict : lines-fault 1 [] (listed l) ≡ lines-fault (n + 1) (open-pairs s) (here ∷ listed (drop (3 * (n + 1)) l))
+    verdict : lines-fault 1 [] (listed l) ≡ lines-fault (n + 1) (innermost d os) (here ∷ listed (drop (3 * (n + 1)) l))
     verdict = sym (h .rest) ∙ rw left
 
-    pub faulty : (r : Refusal) → length l ≤ 1536 → line-fault (n + 1) (open-pairs s) here ≡ some r → Refused r ≡ checked (read-list l)
+    pub faulty : (r : Refusal) → length l ≤ 1536 → line-fault (n + 1) (innermost d os) here ≡ some r → Refused r ≡ checked (read-list l)
     unfolding lines-fault
     faulty r short e = refused-by l short r (verdict ∙ rw e)
 
-    pub onward : (K′ : ℕ) (s′ : Nest) → line-fault (n + 1) (open-pairs s) here ≡ none → Follows (n + 1) (open-pairs s) here s′
-        → K′ ≡ max K (suc (max (getD l (3 * n + 1) 0) (getD l (3 * n + 2) 0))) → SoFar l (n + 1) K′ s′
+    abbrev put : List Opening
+    put = set os (d + 1) (record { line = n + 1; kind = getD l (3 * n) 0; index = getD l (3 * n + 1) 0 })
+
+    pub onward : (K′ : ℕ) → line-fault (n + 1) (innermost d os) here ≡ none
+        → K′ ≡ max K (suc (max (getD l (3 * n + 1) 0) (getD l (3 * n + 2) 0))) → SoFar l (n + 1) K′ (count-after d (getD l (3 * n) 0)) put
     unfolding lines-fault
-    onward K′ s′ e f g =
+    onward K′ e g =
+        let f : Follows (n + 1) (innermost d os) here (count-after d (getD l (3 * n) 0)) put =
+        follows (n + 1) d os _ _ (h .places) (h .room) _ e in
         let k : Known (getD l (3 * n) 0) (getD l (3 * n + 1) 0) (getD l (3 * n + 2) 0) = known _ _ _
-        (passed-known (n + 1) (open-pairs s) _ _ _ e) in
+        (passed-known (n + 1) (innermost d os) _ _ _ e) in
         let split : present (listed (drop (3 * n) l)) ≡ k .command ∷ present (listed (drop (3 * (n + 1)) l)) = rw (left, k .is) in
         record {
           within = omega arith;
           room = f .room;
+          places = length-set os (d + 1) _ ∙ h .places;
           rest = rw (f .pairs, add-one (n + 1)) (sym (verdict ∙ rw e));
           commands = omega (arith, h .commands, ap length split);
           names = omega (arith, h .names, ap variables split, k .top, g);
@@ -114,15 +122,15 @@ module _ (l : List ℕ) (n K : ℕ) (s : Nest) (h : SoFar l n K s) where
       (omega (arith, length-drop (3 * n) l)))
     where
       go : (u : List ℕ) → 0 < length u → length u ≤ 2
-          → lines-fault (n + 1) (open-pairs s) (listed u) ≡ some (record { number = 4; place = n + 1 })
+          → lines-fault (n + 1) (innermost d os) (listed u) ≡ some (record { number = 4; place = n + 1 })
       go [] a b = absurd (omega arith)
       go (k ∷ []) a b = refl
       go (k ∷ i ∷ []) a b = refl
       go (k ∷ i ∷ j ∷ u) a b = absurd (omega arith)
 
-  pub whole : length l ≤ 3 * n → length l ≤ 1536 → at-end (record { lines = n; variables = K }) (open-pairs s) ≡ checked (read-list l)
+  pub whole : length l ≤ 3 * n → length l ≤ 1536 → at-end (record { lines = n; variables = K }) (innermost d os) ≡ checked (read-list l)
   unfolding lines-fault listed
-  whole all short = go (open-pairs s) (sym (h .rest) ∙ rw nothing-left)
+  whole all short = go (innermost d os) (sym (h .rest) ∙ rw nothing-left)
     where
       nothing-left : drop (3 * n) l ≡ []
       nothing-left = drop-of-length-le l all

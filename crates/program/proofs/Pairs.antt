@@ -1,26 +1,28 @@
 -- Laws of one command under the pairs that are open: what the code's tests say of the definitions' verdict, and the stack after it.
 use mathlib.Core.Path.{_≡_, refl, sym, ap, _∙_}
+use mathlib.Core.Logic.{_⊎_, inl, inr}
 use mathlib.Core.Bool.{Bool, true, false, cond, not, _&&_, false≢true}
 use mathlib.Core.Option.{Option, none, some, Option·none-ne-some}
 use mathlib.Core.List.{List, [], _∷_}
 use Prim.Native.Nat.{ℕ, zero, suc, _+_, _-_, _<_, _≤_, max}
-use native.Mathlib.Numerals.{add-one}
+use native.Mathlib.Numerals.{add-one, unary-clauses}
 use native.Mathlib.Omega.{arith}
-use borrow.Author.Tests.{ltb-true, eqb-true, lt-leb, le-leb, eq-eqb, ne-eqb}
+use borrow.Author.Tests.{ltb-true, eqb-true, lt-leb, le-leb, ne-eqb}
 use lib.Dec.{eqb, ltb}
 use lib.ListN.{length, getD, set}
 use lib.Seq.{getD-set-same, getD-set-other}
 use Rattle.theory.specs.ProgramText as P
 use Rattle.theory.specs.ProgramText.{Plain, clear, increment, copy, Kind, loop, while, Command, plain, opens, closes, indices, above}
 use Rattle.theory.specs.ProgramText.{command-of}
-use Rattle.theory.specs.TurnedDown.{unless, same-kind, pair-fault, line-fault}
+use Rattle.theory.specs.TurnedDown.{unless, same-kind, pair-fault, line-fault, open-past}
 use Rattle.theory.specs.declared.Refusal.{Refusal}
 use Rattle.theory.proofs.Nesting.{few-open, one-open}
 use Rattle.program.specs.declared.nest.Opening.{Opening}
-use Rattle.program.specs.declared.nest.Nest.{Nest}
+use Rattle.program.specs.declared.Program.{Program}
+use Rattle.program.specs.declared.Checked.the-variants.{Refused}
 use Rattle.program.specs.declared.nest.Judged.{Judged}
 use Rattle.program.specs.declared.nest.Judged.the-variants.{Passes, Fault}
-use Rattle.program.specs.Nesting.{kind-of, nothing, innermost, open-pairs, is-known, judgement, Follows}
+use Rattle.program.specs.Nesting.{kind-of, nothing, innermost, is-known, judgement, count-after, at-end}
 
 -- Kinds by a test
 pub alike-loop : (b : Bool) → b ≡ same-kind loop (cond b loop while)
@@ -41,49 +43,41 @@ unfolding innermost
 length-innermost zero l = refl
 length-innermost (suc n) l = ap suc (length-innermost n l)
 
-pub innermost-last : (n : ℕ) (l : List Opening) → 0 < n → innermost n l ≡ open-of (getD l (n - 1) nothing) ∷ innermost (n - 1) l
+pub innermost-last : (n : ℕ) (l : List Opening) → 0 < n → innermost n l ≡ open-of (getD l n nothing) ∷ innermost (n - 1) l
 unfolding innermost
-innermost-last n l h =
-    let e : n ≡ suc (n - 1) = omega arith in
-    ap {B = List P.Opening} (λ k. innermost k l) e
+innermost-last zero l h = absurd (omega arith)
+innermost-last (suc n) l h = simp unary-clauses refl
 
-innermost-set : (n i : ℕ) (l : List Opening) (o : Opening) → n ≤ i → innermost n (set l i o) ≡ innermost n l
+innermost-set : (n i : ℕ) (l : List Opening) (o : Opening) → n < i → innermost n (set l i o) ≡ innermost n l
 unfolding innermost
 innermost-set zero i l o h = refl
-innermost-set (suc n) i l o h = rw (getD-set-other l i n o nothing (λ e. omega arith), innermost-set n i l o (omega arith))
+innermost-set (suc n) i l o h = rw (getD-set-other l i (suc n) o nothing (λ e. omega arith), innermost-set n i l o (omega arith))
 
-pub innermost-push : (n : ℕ) (l : List Opening) (o : Opening) → n < length l → innermost (n + 1) (set l n o) ≡ open-of o ∷ innermost n l
+innermost-push : (n : ℕ) (l : List Opening) (o : Opening) → n + 1 < length l
+    → innermost (n + 1) (set l (n + 1) o) ≡ open-of o ∷ innermost n l
 unfolding innermost
 innermost-push n l o h =
-    ap {B = List P.Opening} (λ k. innermost k (set l n o)) (add-one n)
-    ∙ rw (getD-set-same l n o nothing h, innermost-set n n l o (omega arith))
+    ap {B = List P.Opening} (λ k. innermost k (set l k o)) (add-one n)
+    ∙ rw (getD-set-same l (suc n) o nothing (omega arith), innermost-set n (suc n) l o (omega arith))
 
 -- A line that closes a pair
 
-module _ (n : ℕ) (s : Nest) (k i : ℕ) where
-  abbrev last : Opening
-  last = getD (s .openings) (s .count - 1) nothing
+module _ (count : ℕ) (last : Opening) (k i : ℕ) (l : List Opening) (top : last ≡ getD l count nothing) (n : ℕ) where
+  abbrev Fits : Bool → Type 0
+  Fits b = unless b 7 n ≡ pair-fault n (innermost count l) (closes (kind-of k) i)
 
-  abbrev closing : Judged
-  closing = judgement (pair-fault n (open-pairs s) (closes (kind-of k) i))
-
-  pub closing-nothing : s .count ≡ 0 → Fault (record { number = 7; place = n }) ≡ closing
+  pub fits-nothing : count ≡ 0 → Fits false
   unfolding innermost
-  closing-nothing e = rw e
+  fits-nothing e = rw e
 
-  module _ (h : 0 < s .count) where
-    closing-is : (b : Bool) → same-kind (kind-of k) (kind-of (last .kind)) && eqb i (last .index) ≡ b → judgement (unless b 7 n) ≡ closing
-    closing-is b e = rw (innermost-last (s .count) (s .openings) h, e)
+  pub fits-last : 0 < count → (b : Bool) → same-kind (kind-of k) (kind-of (last .kind)) && eqb i (last .index) ≡ b → Fits b
+  fits-last h b e = rw (innermost-last count l h, sym top, e)
 
-    pub closing-passes : same-kind (kind-of k) (kind-of (last .kind)) ≡ true → i ≡ last .index → Passes ≡ closing
-    closing-passes e f = closing-is true (rw (e, eq-eqb i (last .index) f))
+-- The end: rule 8
 
-    pub closing-kind : same-kind (kind-of k) (kind-of (last .kind)) ≡ false → Fault (record { number = 7; place = n }) ≡ closing
-    closing-kind e = closing-is false (rw e)
-
-    pub closing-index : same-kind (kind-of k) (kind-of (last .kind)) ≡ true → (i ≡ last .index → ⊥)
-        → Fault (record { number = 7; place = n }) ≡ closing
-    closing-index e f = closing-is false (rw (e, ne-eqb i (last .index) f))
+pub ended-open : (p : Program) (count : ℕ) (last : Opening) (l : List Opening) → last ≡ getD l count nothing → 0 < count
+    → Refused (record { number = 8; place = last .line }) ≡ at-end p (innermost count l)
+ended-open p count last l top h = rw (innermost-last count l h, sym top)
 
 -- A command by its numbers
 
@@ -219,37 +213,63 @@ passed-open : (n : ℕ) (os : List P.Opening) (k : Kind) (i : ℕ) → line-faul
 passed-open n [] k i h = absurd (one-open n k i h)
 passed-open n (o ∷ os) k i h = omega arith
 
-module _ (s : Nest) (n k i j : ℕ) (h : line-fault n (open-pairs s) (command-of k i j) ≡ none) where
-  pub next-known : is-known k j ≡ true
-  next-known = passed-known n (open-pairs s) k i j h
+-- The stack after a command that passed, which was put on top of it
+pub record Follows (n : ℕ) (os : List P.Opening) (c : Option Command) (count : ℕ) (l : List Opening) : Type 0 where
+  pub pairs : innermost count l ≡ open-past n os c
+  pub room : count ≤ 16
 
-  pub next-room : (k′ : Kind) → command-of k i j ≡ some (opens k′ i) → s .count < 16
-  next-room k′ e = omega (arith, few-open n (open-pairs s) k′ i (rw e at h), length-innermost (s .count) (s .openings))
+module _ (n count : ℕ) (l : List Opening) (i j : ℕ) (size : length l ≡ 18) (room : count ≤ 16) where
+  abbrev Passed : ℕ → Type 0
+  Passed k = line-fault n (innermost count l) (command-of k i j) ≡ none
 
-  pub next-open : (k′ : Kind) → command-of k i j ≡ some (closes k′ i) → 0 < s .count
-  next-open k′ e = omega (arith, passed-open n (open-pairs s) k′ i (rw e at h), length-innermost (s .count) (s .openings))
+  abbrev After : ℕ → Type 0
+  After k =
+      Follows n (innermost count l) (command-of k i j) (count-after count k) (set l (count + 1) (record { line = n; kind = k; index = i }))
 
--- The stack after a command
+  is-open : (k : ℕ) (k′ : Kind) → Passed k → command-of k i j ≡ some (closes k′ i) → 0 < count
+  is-open k k′ h e = omega (arith, passed-open n (innermost count l) k′ i (rw e at h), length-innermost count l)
 
-pub follows-push : (n : ℕ) (s : Nest) (k i : ℕ) → length (s .openings) ≡ 16 → s .count < 16
-    → Follows n (open-pairs s) (some (opens (kind-of k) i)) (record {
-      count = s .count + 1;
-      openings = set (s .openings) (s .count)
-          (record { line = n; kind = k; index = i });
-    })
-follows-push n s k i e h =
-    record {
-      pairs = innermost-push (s .count) (s .openings) (record { line = n; kind = k; index = i }) (omega arith);
-      room = omega arith;
-    }
+  pub one-is-open : (k : ℕ) → Passed k → (k ≡ 5) ⊎ (k ≡ 7) → 0 < count
+  one-is-open k h (inl e) = is-open k loop h (kind-5 k i j e (passed-known n (innermost count l) k i j h))
+  one-is-open k h (inr e) = is-open k while h (kind-7 k i j e (passed-known n (innermost count l) k i j h))
 
-pub follows-pop : (n : ℕ) (s r : Nest) (k : Kind) (i : ℕ) → s .count ≡ suc (r .count) → r .openings ≡ s .openings → s .count ≤ 16
-    → Follows n (open-pairs s) (some (closes k i)) r
-unfolding innermost
-follows-pop n s r k i e f h = record { pairs = rw (e, f); room = omega arith }
+  opened : (k : ℕ) → Passed k → command-of k i j ≡ some (opens (kind-of k) i) → count-after count k ≡ count + 1 → After k
+  opened k h e f =
+      let few : _ = few-open n (innermost count l) (kind-of k) i (rw e at h) in
+      record {
+        pairs = rw (e, f) (innermost-push count l (record { line = n; kind = k; index = i }) (omega arith));
+        room = omega (arith, few, length-innermost count l);
+      }
 
-pub follows-plain : (n : ℕ) (s : Nest) (p : Plain) → s .count ≤ 16 → Follows n (open-pairs s) (some (plain p)) s
-follows-plain n s p h = record { pairs = refl; room = h }
+  closed : (k : ℕ) (k′ : Kind) → Passed k → command-of k i j ≡ some (closes k′ i) → count-after count k ≡ count - 1 → After k
+  closed k k′ h e f =
+      let o : Opening = record { line = n; kind = k; index = i } in
+      let some-open : 0 < count = is-open k k′ h e in
+      record {
+        pairs = rw (e, f, innermost-last count l some-open) (innermost-set (count - 1) (count + 1) l o (omega arith));
+        room = omega (arith, f);
+      }
+
+  unchanged : (k : ℕ) (p : Plain) → command-of k i j ≡ some (plain p) → count-after count k ≡ count → After k
+  unchanged k p e f =
+      let o : Opening = record { line = n; kind = k; index = i } in
+      record { pairs = rw (e, f) (innermost-set count (count + 1) l o (omega arith)); room = omega (arith, f) }
+
+  pub follows : (k : ℕ) → Passed k → After k
+  unfolding known
+  follows k h = go k h (passed-known n (innermost count l) k i j h)
+    where
+      go : (k : ℕ) → Passed k → is-known k j ≡ true → After k
+      go zero h e = absurd (false≢true e)
+      go (suc zero) h e = unchanged 1 (clear i) (known 1 i j e .is) refl
+      go (suc (suc zero)) h e = unchanged 2 (increment i) (known 2 i j e .is) refl
+      go (suc (suc (suc zero))) h e = unchanged 3 (copy i j) (known 3 i j e .is) refl
+      go (suc (suc (suc (suc zero)))) h e = opened 4 h (kind-4 4 i j refl e) refl
+      go (suc (suc (suc (suc (suc zero))))) h e = closed 5 loop h (kind-5 5 i j refl e) refl
+      go (suc (suc (suc (suc (suc (suc zero)))))) h e = opened 6 h (kind-6 6 i j refl e) refl
+      go (suc (suc (suc (suc (suc (suc (suc zero))))))) h e = closed 7 while h (kind-7 7 i j refl e) refl
+      go (suc (suc (suc (suc (suc (suc (suc (suc k)))))))) h e =
+          absurd (omega (arith, known-below (suc (suc (suc (suc (suc (suc (suc (suc k)))))))) j e))
 
 -- The verdict read back
 

@@ -24,8 +24,8 @@ use Rattle.program.specs.declared.Checked.the-variants as C
 use Rattle.program.specs.declared.Written.the-variants as W
 use Rattle.program.specs.Answers.{program-of, checked, written}
 use Rattle.program.specs.Lines.{Lined}
-use Rattle.text.specs.Puts.{Put}
-use Rattle.text.proofs.Puts.{sets-front}
+use Rattle.output.specs.Puts.{Put}
+use Rattle.output.proofs.Puts.{sets-front}
 use Rattle.program.proofs.TextCheck.{refused-2, past-2, refused-3}
 
 -- A check read back

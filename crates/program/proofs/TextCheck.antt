@@ -17,6 +17,7 @@ use Rattle.theory.specs.TurnedDown.{refused, answer, rule-1, rule-2, rule-3, li
 use Rattle.theory.specs.TurnedDown.{program-fault}
 use Rattle.theory.specs.TurnedDown.{text-lines, text-fault, read-text, read-list}
 use Rattle.theory.specs.declared.Refusal.{Refusal}
+use Rattle.theory.specs.ProgramText.{commands}
 use Rattle.theory.proofs.Nesting.{indexed, first-line, next-lines, faultless}
 use Rattle.command.specs.Lines.{limited, numbered}
 use Rattle.program.specs.Lines.{all-numbers}
@@ -103,7 +104,7 @@ program-capped p = rw (length-map p capped-line, lines-capped p 1 [])
 
 -- What the numbers of a text are read as
 pub numbers-read : (t : Bytes) → read-list (all-numbers (split-lines t)) ≡ answer (program-fault (text-lines t)) (present (text-lines t))
-unfolding read-list
+unfolding read-list commands
 numbers-read t = rw (listed-numbers (split-lines t), program-capped (text-lines t)) (go (program-fault (text-lines t)) refl)
   where
     go : (v : Option Refusal) → program-fault (text-lines t) ≡ v

@@ -4,8 +4,8 @@ mod nest; // nest.rt: rules 4 to 7, for one command under the pairs that are ope
 mod spell; // spell.rt: the text of a list
 
 use nest::Judged;
-use nest::Nest;
-use text::put::put_bytes;
+use nest::Opening;
+use output::put_bytes;
 use theory::Refusal;
 ghost use mathlib.Core.Path.{_≡_};
 ghost use Prim.Native.Nat.{suc, max, _<_};
@@ -61,32 +61,45 @@ fn named(variables: usize, index: u8, source: u8) -> usize
     if variables < above { above } else { variables }
 }
 
-// Rules 3 to 8, the commands of a list taken as lines.
+// Rules 3 to 8, the commands of a list taken as lines. Every command is put where an opening would stand; it counts where it is one.
 pub fn check_list(list: &[u8]) -> Checked
     ensures { λ r. ⌜ r ≡ checked (read-list (now (list .entry))) ⌝ }
 {
     if Program::NUMBERS < list.len() {
         return refused(3, Program::LINES + 1);
     }
-    let mut nest = Nest::none();
+    let none = Opening {
+        line: 0,
+        kind: 0,
+        index: 0,
+    };
+    let mut openings = [none; Opening::PLACES];
+    let mut count = 0;
     let mut lines = 0;
     let mut variables = 0;
     while 3 * lines + 2 < list.len() {
         let kind = list[3 * lines];
         let index = list[3 * lines + 1];
         let source = list[3 * lines + 2];
-        match nest.judged(lines + 1, kind, index, source) {
+        let last = openings[count];
+        lines += 1;
+        match nest::judge(count, last, lines, kind, index, source) {
             Judged::Fault(r) => return Checked::Refused(r),
             Judged::Passes => {}
         }
-        nest = nest.next(lines + 1, kind, index, source);
+        openings[count + 1] = Opening {
+            line: lines,
+            kind,
+            index,
+        };
+        count = nest::open_after(count, kind);
         variables = named(variables, index, source);
-        lines += 1;
     }
     if 3 * lines < list.len() {
         return refused(4, lines + 1);
     }
-    nest.ended(Program { lines, variables })
+    let last = openings[count];
+    nest::ended(count, last, Program { lines, variables })
 }
 
 // Whether a text is empty or ends in LF, which rule 2 asks.

@@ -1,7 +1,7 @@
 // The lines of a program's text, read as a list of three numbers a command.
 use command::Numbers;
 use command::numbers_of;
-use text::read::line_end;
+use text::line_end;
 ghost use Prim.Native.Nat.{_≤_, _<_};
 ghost use mathlib.Core.Path.{_≡_};
 ghost use lib.ListN.{length};

@@ -1,6 +1,9 @@
-// The pairs that are open, and rules 4 to 7 for one command under them.
+// The pairs that are open, and rules 4 to 7 for one command under them. The openings stand in the order of their lines from number 1 on;
+// number 0 is none.
 use crate::Checked;
 use crate::Program;
+use crate::refused;
+use command::CLEAR;
 use command::COPY;
 use command::ENDLOOP;
 use command::ENDWHILE;
@@ -9,26 +12,23 @@ use command::Numbers;
 use command::WHILE;
 use theory::Refusal;
 ghost use mathlib.Core.Path.{_≡_};
-ghost use mathlib.Core.Option.{none, some};
-ghost use Prim.Native.Nat.{suc, max, _≤_, _<_};
-ghost use lib.Dec.{ltb};
-ghost use lib.ListN.{length};
+ghost use mathlib.Core.Logic.{_⊎_};
+ghost use Prim.Native.Nat.{ℕ, max, _≤_, _<_};
 ghost use Rattle.theory.specs.Limits.{most-open};
-ghost use Rattle.theory.specs.ProgramText.{opens, closes, command-of};
+ghost use Rattle.theory.specs.ProgramText.{closes, command-of};
 ghost use Rattle.theory.specs.TurnedDown.{unless, same-kind, pair-fault, line-fault};
-ghost use Rattle.program.specs.Nesting.{kind-of, open-pairs, judgement, is-known, no-pairs, Follows, at-end};
+ghost use Rattle.program.specs.Nesting.{kind-of, judgement, is-known, Under, count-after, at-end};
 
-// An opening line: its number, its kind (4 for `loop`, 6 for `while`) and its index.
+// An opening line: its number, its kind (LOOP or WHILE) and its index.
 pub struct Opening {
     pub line: usize,
     pub kind: u8,
     pub index: u8,
 }
 
-// The pairs that are open, the innermost last.
-pub struct Nest {
-    pub count: usize,
-    pub openings: [Opening; Program::OPEN],
+impl Opening {
+    // The places of the openings: none, those of the pairs that may be open together, and one more for the line that comes next.
+    pub const PLACES: usize = Program::OPEN + 2;
 }
 
 // A command passes, or is at fault.
@@ -61,7 +61,7 @@ fn is_command(kind: u8, source: u8) -> bool
     match kind {
         0 => false,
         COPY => true,
-        1..=ENDWHILE => source == 0,
+        CLEAR..=ENDWHILE => source == 0,
         _ => false,
     }
 }
@@ -77,123 +77,67 @@ fn are_alike(kind: u8, other: u8) -> bool
     }
 }
 
-impl Nest {
-    // No pair is open.
-    pub fn none() -> Self
-        ensures { λ r. ⌜ r ≡ no-pairs ⌝ }
-    {
-        let nothing = Opening {
-            line: 0,
-            kind: 0,
-            index: 0,
-        };
-        Nest {
-            count: 0,
-            openings: [nothing; Program::OPEN],
+// The verdict of a rule that asks for what is so or not.
+fn unless(holds: bool, number: u32, line: usize) -> Judged
+    ensures { λ r. ⌜ r ≡ judgement (unless holds number line) ⌝ }
+{
+    if holds {
+        Judged::Passes
+    } else {
+        fault(number, line)
+    }
+}
+
+// Whether a line that closes a pair of this kind and index fits, where so many are open and the innermost is `last`.
+fn fits(count: usize, last: Opening, kind: u8, index: u8) -> bool
+    ensures { λ r. ⌜ Under count last (λ os. (n : ℕ) → unless r 7 n ≡ pair-fault n os (closes (kind-of kind) index)) ⌝ }
+{
+    if 0 < count {
+        if are_alike(kind, last.kind) {
+            return index == last.index;
         }
     }
+    false
+}
 
-    // Rule 6, for a line that opens a pair.
-    fn opening(self, line: usize) -> Judged
-        ensures { λ r. ⌜ r ≡ judgement (unless (ltb (length (open-pairs self)) most-open) 6 line) ⌝ }
-    {
-        if self.count < Program::OPEN {
-            Judged::Passes
-        } else {
-            Judged::Fault(Refusal {
-                number: 6,
-                place: line,
-            })
-        }
+// A command at a line: rules 4 and 5, then 6 and 7.
+pub fn judge(count: usize, last: Opening, line: usize, kind: u8, index: u8, source: u8) -> Judged
+    ensures { λ r. ⌜ Under count last (λ os. r ≡ judgement (line-fault line os (command-of kind index source))) ⌝ }
+{
+    if !is_command(kind, source) {
+        return fault(4, line);
     }
-
-    // Rule 7, for a line that closes a pair of this kind.
-    fn closing(self, line: usize, kind: u8, index: u8) -> Judged
-        requires { ⌜ self .count ≤ 16 ⌝ }
-        ensures { λ r. ⌜ r ≡ judgement (pair-fault line (open-pairs self) (closes (kind-of kind) index)) ⌝ }
-    {
-        let count = self.count;
-        if 0 < count {
-            let last = self.openings[count - 1];
-            if are_alike(kind, last.kind) {
-                if index == last.index {
-                    return Judged::Passes;
-                }
-            }
-        }
-        Judged::Fault(Refusal {
-            number: 7,
-            place: line,
-        })
+    if Numbers::INDEX < higher(index, source) {
+        return fault(5, line);
     }
-
-    // A command at a line: rules 4 and 5, then 6 and 7.
-    pub fn judged(self, line: usize, kind: u8, index: u8, source: u8) -> Judged
-        requires { ⌜ self .count ≤ 16 ⌝ }
-        ensures { λ r. ⌜ r ≡ judgement (line-fault line (open-pairs self) (command-of kind index source)) ⌝ }
-    {
-        if !is_command(kind, source) {
-            return fault(4, line);
-        }
-        if Numbers::INDEX < higher(index, source) {
-            return fault(5, line);
-        }
-        match kind {
-            LOOP => self.opening(line),
-            ENDLOOP => self.closing(line, LOOP, index),
-            WHILE => self.opening(line),
-            ENDWHILE => self.closing(line, WHILE, index),
-            _ => Judged::Passes,
-        }
+    match kind {
+        LOOP => unless(count < Program::OPEN, 6, line),
+        ENDLOOP => unless(fits(count, last, LOOP, index), 7, line),
+        WHILE => unless(count < Program::OPEN, 6, line),
+        ENDWHILE => unless(fits(count, last, WHILE, index), 7, line),
+        _ => Judged::Passes,
     }
+}
 
-    // A pair more is open.
-    fn pushed(mut self, line: usize, kind: u8, index: u8) -> Self
-        requires { ⌜ self .count < 16 ⌝ }
-        ensures { λ r. ⌜ Follows line (open-pairs self) (some (opens (kind-of kind) index)) r ⌝ }
-    {
-        let count = self.count;
-        self.openings[count] = Opening { line, kind, index };
-        self.count = count + 1;
-        self
+// How many pairs are open after a command of this kind, where so many were.
+pub fn open_after(count: usize, kind: u8) -> usize
+    requires { ⌜ (count ≤ most-open) × ((kind ≡ 5) ⊎ (kind ≡ 7) → 0 < count) ⌝ }
+    ensures { λ r. ⌜ r ≡ count-after count kind ⌝ }
+{
+    match kind {
+        LOOP | WHILE => count + 1,
+        ENDLOOP | ENDWHILE => count - 1,
+        _ => count,
     }
+}
 
-    // The innermost pair is closed.
-    fn popped(mut self) -> Self
-        requires { ⌜ (0 < self .count) × (self .count ≤ 16) ⌝ }
-        ensures { λ r. ⌜ (self .count ≡ suc (r .count)) × (r .openings ≡ self .openings) ⌝ }
-    {
-        self.count = self.count - 1;
-        self
-    }
-
-    // The pairs that are open after a command that passed.
-    pub fn next(self, line: usize, kind: u8, index: u8, source: u8) -> Self
-        requires { ⌜ (self .count ≤ 16) × (line-fault line (open-pairs self) (command-of kind index source) ≡ none) ⌝ }
-        ensures { λ r. ⌜ Follows line (open-pairs self) (command-of kind index source) r ⌝ }
-    {
-        match kind {
-            4 => self.pushed(line, kind, index),
-            5 => self.popped(),
-            6 => self.pushed(line, kind, index),
-            7 => self.popped(),
-            _ => self,
-        }
-    }
-
-    // Rule 8.
-    pub fn ended(self, program: Program) -> Checked
-        requires { ⌜ self .count ≤ 16 ⌝ }
-        ensures { λ r. ⌜ r ≡ at-end program (open-pairs self) ⌝ }
-    {
-        let count = self.count;
-        if count == 0 {
-            return Checked::Accepted(program);
-        }
-        let last = self.openings[count - 1];
-        Checked::Refused(Refusal {
-            number: 8,
-            place: last.line,
-        })
+// Rule 8.
+pub fn ended(count: usize, last: Opening, program: Program) -> Checked
+    ensures { λ r. ⌜ Under count last (λ os. r ≡ at-end program os) ⌝ }
+{
+    if count == 0 {
+        Checked::Accepted(program)
+    } else {
+        refused(8, last.line)
     }
 }

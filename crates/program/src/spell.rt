@@ -1,6 +1,6 @@
 // The text of an accepted list: its size, and the text written at the front of a lent slice.
-use command::command_size;
-use command::put_command;
+use spelling::command_size;
+use spelling::put_command;
 ghost use mathlib.Core.Path.{_≡_};
 ghost use mathlib.Core.Option.{none};
 ghost use lib.ListN.{length};

@@ -7,7 +7,7 @@ use native.Mathlib.Omega.{arith}
 use lib.IntN.{pos}
 use lib.ListN.{getD}
 use Rattle.theory.specs.Text.{Bytes}
-use Rattle.theory.specs.ProgramText.{Command, variables}
+use Rattle.theory.specs.ProgramText.{Command, variables, commands}
 use Rattle.theory.specs.Word as W
 use Rattle.theory.specs.Word.{Entry}
 use Rattle.theory.specs.Translation.{word-of, word-text}
@@ -28,13 +28,14 @@ use Rattle.memory.specs.declared.answers.Run as M
 use Rattle.machine.proofs.ByByte.{ended-by-byte, ran-by-table}
 use Rattle.machine.proofs.ReadWord.{word-good, word-read}
 use Rattle.source.specs.Answers.{source-state, fresh-state, ended-by, state-by, HandsBack}
-use Rattle.source.specs.declared.Run.{Run}
-use Rattle.source.specs.declared.State.{State}
-use Rattle.report.specs.Fresh.{values-of, Starts, Filled}
-use Rattle.report.specs.Rows.{commands, ended-of, word-ended, source-ended, row-of, Ready, Tabled, Ran}
-use Rattle.report.specs.declared.writing.Ended.{Ended}
+use Rattle.source.specs.declared.answers.Run.{Run}
+use Rattle.source.specs.declared.answers.State.{State}
+use Rattle.report.specs.Fresh.{values-of, Starts}
+use Rattle.report.specs.Rows.{ended-of, word-ended, source-ended, row-of, Ready, Tabled, Ran}
+use Rattle.printing.specs.declared.Ended.{Ended}
 use Rattle.report.proofs.Starting.{source-passes, source-runs, source-within, first-within}
-use Rattle.report.proofs.Starting.{word-memory, word-start, memory-passes, word-runs, word-within, tool-runs}
+use Rattle.report.proofs.Fresh.{word-memory, Filled}
+use Rattle.report.proofs.Starting.{word-start, memory-passes, word-runs, word-within, tool-runs}
 
 -- The word of an accepted program passes rules 11 to 14
 word-passes : (p : List Command) → Accepted p → word-fault (word-text p) ≡ none

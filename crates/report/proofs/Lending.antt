@@ -12,7 +12,7 @@ use borrow.Author.Tests.{le-leb, lt-leb, leb-true, leb-false}
 use Rattle.theory.specs.Text.{Bytes}
 use Rattle.theory.specs.TurnedDown.{done, refused, rule-19, lent-after}
 use Rattle.theory.specs.RunTool.{report}
-use Rattle.text.specs.Puts.{Put}
+use Rattle.output.specs.Puts.{Put}
 use Rattle.report.specs.Answers.{reported, report-into}
 use Rattle.report.specs.declared.Reported.{Reported}
 use Rattle.report.specs.declared.Reported.the-variants as R

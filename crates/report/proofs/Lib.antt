@@ -1,6 +1,4 @@
-pub mod Puts
-pub mod Lengths
-pub mod Places
+pub mod Fresh
 pub mod Starting
 pub mod Values
 pub mod Sheets

@@ -15,7 +15,7 @@ use Rattle.theory.specs.Translation.{word-text}
 use Rattle.theory.specs.TurnedDown.{done, refused, read-text, sheet-fault}
 use Rattle.theory.specs.RunTool.{shown, header, rows-of, tool-fault, tool-answer, report}
 use Rattle.theory.specs.declared.Refusal.{Refusal}
-use Rattle.report.specs.Puts.{Few, row-line, refusal-line}
+use Rattle.printing.specs.Lines.{Few, row-line, refusal-line}
 use Rattle.report.specs.Rows.{row-of, program-report, Printed}
 
 pub shown-row : (s : Outcome S.State) (w : Outcome W.State) → row-line (row-of s w) ≡ shown s w

@@ -6,23 +6,18 @@ use native.Mathlib.Omega.{arith}
 use lib.ListN.{length, take, drop}
 use lib.Seq.{take-at}
 use borrow.Author.Tests.{le-leb}
-use Rattle.theory.specs.Basics.{present}
 use Rattle.theory.specs.Text.{Bytes}
-use Rattle.theory.specs.ProgramText.{Command, variables, list-of}
+use Rattle.theory.specs.ProgramText.{Command, variables, list-of, commands}
 use Rattle.theory.specs.TurnedDown.{Answer, done, refused, mapped, rule-19, read-text, read-list, lent-after, read-program-into}
 use Rattle.theory.specs.Claims.{Accepted}
 use Rattle.theory.specs.declared.Refusal.{Refusal}
 use Rattle.theory.proofs.Nesting.{short, few-variables, reads-accepted}
-use Rattle.theory.proofs.Lists.{listed-list, present-some, lists-round-trip}
+use Rattle.theory.proofs.Lists.{lists-round-trip, commands-list}
 use Rattle.program.proofs.Lists.{list-length}
 use Rattle.program.specs.Answers.{program-of, checked}
 use Rattle.program.specs.declared.Program.{Program}
 use Rattle.program.specs.declared.Checked.the-variants as C
-use Rattle.report.specs.Rows.{commands, Listed}
-
--- The commands of a program's list
-commands-list : (p : List Command) → commands (list-of p) ≡ p
-commands-list p = ap {B = List Command} present (listed-list p) ∙ present-some p
+use Rattle.report.specs.Rows.{Listed}
 
 list-accepted : (p : List Command) → Accepted p → read-list (list-of p) ≡ done (commands (list-of p))
 list-accepted p a = lists-round-trip .0 p a ∙ ap done (sym (commands-list p))

@@ -16,15 +16,16 @@ use Rattle.theory.specs.Source as S
 use Rattle.theory.specs.Word as W
 use Rattle.theory.specs.Word.{Symbol}
 use Rattle.theory.specs.Translation.{word-of}
-use Rattle.theory.specs.Machines.{SourceState, run-source, Memory, Position, refilled, contents, holding, run-word}
+use Rattle.theory.specs.Machines.{SourceState, run-source, Position, refilled, contents, holding, run-word}
 use Rattle.theory.specs.RunTool.{tool-source, tool-word}
 use Rattle.theory.specs.TurnedDown.{rule-9, rule-10}
 use Rattle.theory.specs.Claims.{Accepted}
 use Rattle.theory.proofs.Budgets.{steps-within}
 use Rattle.theory.proofs.GoodSource.{Stood, stood-is-source, run-stands}
 use Rattle.theory.proofs.GoodMemory.{Fits, Good, good-is-memory, refilled-good, contents-refilled, contents-beyond}
-use Rattle.report.specs.Fresh.{values-of, Starts, Filled}
-use Rattle.report.proofs.Places.{zeros-at, length-ones}
+use Rattle.memory.proofs.Filling.{zeros-at, length-ones}
+use Rattle.report.specs.Fresh.{values-of, Starts}
+use Rattle.report.proofs.Fresh.{word-memory, Filled}
 
 -- The source
 
@@ -66,9 +67,6 @@ module _ (p : List Command) (values : List ℕ) (h : Starts (variables p) values
       rw (← source-runs) (run-stands p accepted (source-start values) 100000 stood .values 0 (omega arith) .0)
 
 -- The word
-
-abbrev pub word-memory : Bytes → List ℕ → Memory
-word-memory store lengths = record { count = 64; capacity = 1024; store = store; lengths = lengths }
 
 abbrev pub word-start : Position
 word-start = record { place = pos 1; steps = 0 }

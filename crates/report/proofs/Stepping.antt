@@ -10,17 +10,18 @@ use Rattle.theory.specs.Basics.{cells, all, default}
 use Rattle.theory.specs.Text.{Bytes, split-lines, ends-in-LF}
 use Rattle.theory.specs.RunSheet.{values, start}
 use Rattle.theory.specs.RunTool.{tool-source, tool-word, shown, header, row, rows-of}
+use Rattle.theory.specs.ProgramText.{commands}
 use Rattle.sheet.specs.Answers.{names-record, line-at, after-line, row-answer}
 use Rattle.sheet.specs.declared.answers.Names.{Names}
 use Rattle.sheet.specs.declared.answers.Row.{Row as Line}
 use Rattle.sheet.proofs.Splits.{lines-next}
-use Rattle.report.specs.declared.writing.Row.{Row}
-use Rattle.text.specs.Puts.{most, Put}
-use Rattle.report.specs.Puts.{row-line}
+use Rattle.printing.specs.declared.Row.{Row}
+use Rattle.output.specs.Puts.{most, Put}
+use Rattle.printing.specs.Lines.{row-line}
 use Rattle.report.specs.Fresh.{values-of, Starts}
-use Rattle.report.specs.Rows.{commands, Ready, Given, Ran, Printed}
-use Rattle.text.proofs.Puts.{put-then}
-use Rattle.report.proofs.Lengths.{row-short}
+use Rattle.report.specs.Rows.{Ready, Given, Ran, Printed}
+use Rattle.output.proofs.Puts.{put-then}
+use Rattle.printing.proofs.Lengths.{row-short}
 use Rattle.report.proofs.Reading.{listed-few}
 use Rattle.report.proofs.Values.{values-within, cells-values, cells-start}
 use Rattle.report.proofs.Sheets.{Sheet, sheet-accepted}

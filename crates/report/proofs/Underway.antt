@@ -13,8 +13,8 @@ use Rattle.theory.specs.TurnedDown.{values-fault, rows-fault, names-of}
 use Rattle.theory.specs.RunTool.{row, rows, rows-of}
 use Rattle.theory.specs.declared.Refusal.{Refusal}
 use Rattle.theory.proofs.Faults.{none-first, none-second}
-use Rattle.text.specs.Puts.{most, Put}
-use Rattle.text.proofs.Puts.{put-nothing, put-then}
+use Rattle.output.specs.Puts.{most, Put}
+use Rattle.output.proofs.Puts.{put-nothing, put-then}
 use Rattle.report.proofs.Sheets.{Sheet}
 
 -- The names of a sheet, and its lines from a byte on

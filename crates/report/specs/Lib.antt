@@ -1,4 +1,3 @@
-pub mod Puts
 pub mod Fresh
 pub mod Rows
 pub mod Answers

@@ -3,10 +3,9 @@ use mathlib.Core.Path.{_≡_}
 use mathlib.Core.Option.{none}
 use mathlib.Core.List.{List, _++_}
 use Prim.Native.Nat.{ℕ, _≤_}
-use Rattle.theory.specs.Basics.{present}
 use Rattle.theory.specs.Limits.{tool-capacity}
 use Rattle.theory.specs.Text.{Bytes, split-lines}
-use Rattle.theory.specs.ProgramText.{Command, variables, listed}
+use Rattle.theory.specs.ProgramText.{Command, variables, commands}
 use Rattle.theory.specs.Runs.{Outcome}
 use Rattle.theory.specs.Source as S
 use Rattle.theory.specs.Word as W
@@ -16,17 +15,13 @@ use Rattle.theory.specs.RunTool.{tool-source, tool-word, header, rows-of, tool-
 use Rattle.theory.specs.declared.End.the-variants.{Spent}
 use Rattle.word.specs.Answers.{zipped}
 use Rattle.memory.specs.declared.answers.Ended as M
-use Rattle.source.specs.declared.Ended as R
+use Rattle.source.specs.declared.answers.Ended as R
 use Rattle.sheet.specs.Answers.{names-record}
 use Rattle.sheet.specs.declared.answers.Names.{Names}
-use Rattle.report.specs.declared.writing.Ended.{Ended}
-use Rattle.report.specs.declared.writing.Row.{Row}
-use Rattle.text.specs.Puts.{Put}
-use Rattle.report.specs.Puts.{Within}
-
--- The commands of a list
-abbrev pub commands : Bytes → List Command
-commands list = present (listed list)
+use Rattle.printing.specs.declared.Ended.{Ended}
+use Rattle.printing.specs.declared.Row.{Row}
+use Rattle.output.specs.Puts.{Put}
+use Rattle.printing.specs.Lines.{Within}
 
 -- How a run of the definitions ended, and how a run of a word or a source did. A refusal, which does not come, counts as no step
 abbrev pub ended-of : {S : Type 0} → Outcome S → Ended

@@ -1,25 +1,26 @@
 // The run tool's text (document 01, "Run sheet and run tool"): from a program's text and a sheet's to the whole of what is printed.
-mod fresh; // fresh.rt: the memory of a fresh word
 mod rows; // rows.rt: the runs of a row
-mod writing; // writing.rt: the parts of the text
 
+use printing::put_header;
+use printing::put_refusal;
+use printing::put_row;
 use program::Checked;
+use program::Program;
 use rows::run_row;
 use sheet::Names;
+use source::State;
 use theory::Refusal;
 use translation::Translated;
 use word::Instruction;
 use word::Read;
-use writing::put_header;
-use writing::put_refusal;
-use writing::put_row;
 ghost use mathlib.Core.Path.{_≡_};
 ghost use mathlib.Core.List.{_++_};
 ghost use Rattle.theory.specs.Text.{split-lines};
 ghost use Rattle.theory.specs.TurnedDown.{lent-after};
 ghost use Rattle.theory.specs.RunTool as RunTool;
 ghost use Rattle.theory.specs.RunTool.{header, rows-of};
-ghost use Rattle.report.specs.Rows.{commands, Listed, Ready, Tabled, Given, program-report, Printed};
+ghost use Rattle.theory.specs.ProgramText.{commands};
+ghost use Rattle.report.specs.Rows.{Listed, Ready, Tabled, Given, program-report, Printed};
 ghost use Rattle.report.specs.Answers.{reported, report-into};
 
 // The text has so many bytes, or does not fit into the output.
@@ -29,6 +30,9 @@ pub enum Reported {
 }
 
 impl Reported {
+    // "Its word buffer has 65,536 bytes".
+    pub const WORD: usize = 65536;
+
     // Bytes that are enough for any report: the header's 47, and 36 for each row, of which there are 4,095 at most.
     pub const MOST: usize = 147467;
 }
@@ -51,7 +55,7 @@ fn put_rows(
     let mut at = sheet::first_row(sheet);
     let mut n: usize = 2;
     while at < sheet.len() {
-        let line = sheet::row(sheet, names, 1024, n, at);
+        let line = sheet::row(sheet, names, State::CAPACITY, n, at);
         let values = line.values;
         let row = run_row(list, kinds, operands, variables, values);
         place = put_row(&mut *out, place, row);
@@ -101,7 +105,7 @@ fn put_translated(
     requires { ⌜ Listed (now list) variables × Given (now sheet) names variables ⌝ }
     ensures { λ r. ⌜ Printed (program-report (commands (now (list .entry))) (now (sheet .entry))) (now (out .entry)) (now (out .exit)) r ⌝ }
 {
-    let mut word = [0u8; 65536];
+    let mut word = [0u8; Reported::WORD];
     match translation::translate_list(list, &mut word) {
         Translated::Refused(r) => put_refusal(out, r),
         Translated::Done(size) => {
@@ -116,7 +120,7 @@ fn put_accepted(list: &[u8], variables: usize, sheet: &[u8], out: &mut [u8]) -> 
     requires { ⌜ Listed (now list) variables ⌝ }
     ensures { λ r. ⌜ Printed (program-report (commands (now (list .entry))) (now (sheet .entry))) (now (out .entry)) (now (out .exit)) r ⌝ }
 {
-    let found = sheet::check(sheet, variables, 1024);
+    let found = sheet::check(sheet, variables, State::CAPACITY);
     let names = found.names;
     let checked = found.checked;
     match checked {
@@ -129,7 +133,7 @@ fn put_accepted(list: &[u8], variables: usize, sheet: &[u8], out: &mut [u8]) -> 
 fn put_report(text: &[u8], sheet: &[u8], out: &mut [u8]) -> usize
     ensures { λ r. ⌜ Printed (RunTool.report (now (text .entry)) (now (sheet .entry))) (now (out .entry)) (now (out .exit)) r ⌝ }
 {
-    let mut list = [0u8; 1536];
+    let mut list = [0u8; Program::NUMBERS];
     match program::read(text, &mut list) {
         Checked::Refused(r) => put_refusal(out, r),
         Checked::Accepted(p) => {

@@ -1,24 +1,30 @@
 // The runs of a row: the word's from a fresh machine, and the source's from a fresh state of the same values.
-use crate::fresh::fill;
-use crate::writing::Ended;
-use crate::writing::Row;
 use memory::Machine;
+use printing::Ended;
+use printing::Row;
+use source::State;
 use theory::End;
 ghost use mathlib.Core.Path.{_≡_};
 ghost use mathlib.Core.List.{List};
+ghost use lib.ListN.{length};
+ghost use Rattle.theory.specs.Limits.{state-values};
 ghost use Rattle.theory.specs.ProgramText.{Command, variables as variables-of};
 ghost use Rattle.theory.specs.Translation.{word-text};
 ghost use Rattle.theory.specs.TurnedDown.{word-entries};
 ghost use Rattle.theory.specs.RunTool.{tool-word};
 ghost use Rattle.theory.specs.Claims.{Accepted};
+ghost use Rattle.theory.specs.ProgramText.{commands};
 ghost use Rattle.word.specs.Answers.{zipped};
 ghost use Rattle.report.specs.Fresh.{values-of, Starts};
-ghost use Rattle.report.specs.Rows.{word-ended, source-ended, ended-of, commands, Tabled, Ran};
+ghost use Rattle.report.specs.Rows.{word-ended, source-ended, ended-of, Tabled, Ran};
 
 // "budget 100,000 for the source and 1,000,000 for the word"
 const SOURCE_BUDGET: u32 = 100000;
 
 const WORD_BUDGET: u32 = 1000000;
+
+// A place of Machine::CAPACITY bytes for each of Machine::REGISTERS.
+const STORE: usize = 65536;
 
 // How a word's run ended. A refusal does not come: a word of the translation passes every rule.
 fn of_word(ended: memory::Ended) -> Ended
@@ -34,18 +40,18 @@ fn of_word(ended: memory::Ended) -> Ended
 }
 
 // The word's run, of its instructions.
-fn run_word(kinds: &[u8], operands: &[u32], variables: usize, values: [u32; 32]) -> Ended
-    requires { ⌜ Starts variables values ⌝ }
+fn run_word(kinds: &[u8], operands: &[u32], variables: usize, values: &[u32]) -> Ended
+    requires { ⌜ Starts variables (now values) × (length (now values) ≡ state-values) ⌝ }
     ensures { λ r. ⌜ ((p : List Command) → Accepted p → zipped (now (kinds .entry)) (now (operands .entry)) ≡ word-entries (word-text p)
-        → variables ≡ variables-of p → r ≡ ended-of (tool-word p (values-of values))) ⌝ }
+        → variables ≡ variables-of p → r ≡ ended-of (tool-word p (values-of (now (values .entry))))) ⌝ }
 {
-    let mut store = [0u8; 65536];
+    let mut store = [0u8; STORE];
     let mut lengths = [0u16; Machine::REGISTERS];
-    fill(&mut store, &mut lengths, values, variables);
     let m = Machine {
         registers: Machine::REGISTERS,
         capacity: Machine::CAPACITY,
     };
+    Machine::fresh(m, &mut store, &mut lengths, &values[..variables]);
     let at = memory::Position::fresh();
     let run = engine::run_numbers(
         m,
@@ -84,13 +90,13 @@ pub fn run_row(
     requires { ⌜ Tabled (now list) (now kinds) (now operands) variables × Starts variables values ⌝ }
     ensures { λ r. ⌜ Ran (commands (now (list .entry))) (values-of values) r ⌝ }
 {
-    let fresh = source::State::fresh(1024, values);
+    let fresh = State::fresh(State::CAPACITY, values);
     let run = source::run_list(list, fresh, SOURCE_BUDGET);
     let ended = run.ended;
     let state = run.state;
     let last = state.values;
     let source = of_source(ended);
-    let word = run_word(kinds, operands, variables, values);
+    let word = run_word(kinds, operands, variables, &values);
     Row {
         source,
         word,

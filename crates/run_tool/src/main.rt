@@ -1,20 +1,7 @@
 // The run tool (document 01, "Run sheet and run tool"): reads program.txt and sheet.txt, and prints their report.
+use files::read_file;
 use libc::STDOUT_FILENO;
 use report::Reported;
-ghost use Rattle.io.specs.Counts.{Counts};
-
-// Reads a file as far as the buffer goes. One that cannot be read counts as empty.
-fn read_file(path: &[u8], buffer: &mut [u8]) -> usize
-    ensures { λ r. ⌜ Counts r (now (buffer .exit)) ⌝ }
-{
-    let file = os::open_read(path);
-    if file < 0 {
-        return 0;
-    }
-    let n = io::read_full(file, buffer);
-    libc::close(file);
-    n
-}
 
 // Each buffer has one byte more than its limit, so that a file over the limit is seen to be.
 fn main() {

@@ -12,8 +12,8 @@ use Rattle.theory.specs.Text.{Bytes, numeral, name, fields, ends-in-LF}
 use Rattle.theory.specs.RunSheet.{whole, values, distinct}
 use Rattle.theory.specs.TurnedDown.{values-fault, rows-fault}
 use Rattle.theory.specs.declared.Refusal.{Refusal}
-use Rattle.text.specs.declared.read.Number.{Number as Told}
-use Rattle.text.specs.declared.read.Number.the-variants.{To, No}
+use Rattle.text.specs.declared.Number.{Number as Told}
+use Rattle.text.specs.declared.Number.the-variants.{To, No}
 use Rattle.sheet.specs.declared.answers.Fault.{Fault}
 use Rattle.sheet.specs.declared.answers.Fault.the-variants as F
 use Rattle.sheet.specs.declared.answers.Checked.{Checked}

@@ -1,9 +1,9 @@
 // The number that a field spells, and the numbers of a line.
 use crate::answers::Names;
-use text::read::Number;
-use text::read::find;
-use text::read::name;
-use text::read::numeral;
+use text::Number;
+use text::find;
+use text::name;
+use text::numeral;
 ghost use mathlib.Core.Path.{_≡_};
 ghost use mathlib.Core.Bool.{true, false};
 ghost use Prim.Native.Nat.{_^_, _≤_, _<_, min};

@@ -15,7 +15,7 @@ use columns::spread;
 use fields::Line;
 use fields::least;
 use fields::read_line;
-use text::read::find;
+use text::find;
 use theory::Refusal;
 ghost use mathlib.Core.Path.{_≡_};
 ghost use mathlib.Core.Option.{some};

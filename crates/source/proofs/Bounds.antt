@@ -1,18 +1,18 @@
 -- What the indices of a step are below, of a state and tables that are ready for it.
-use mathlib.Core.Path.{_≡_}
 use mathlib.Core.List.{List}
 use Prim.Native.Nat.{ℕ, _+_, _-_, _*_, _≤_, _<_}
 use native.Mathlib.Omega.{arith}
 use lib.ListN.{length, getD}
-use Rattle.source.specs.Lines.{program, Ready}
-use Rattle.source.proofs.Program.{few-lines, numbers-length, past-plain}
-use Rattle.source.proofs.Steps.{kind-at, first-at, second-at, first-low, second-low, opening-entry, closing-entry}
+use Rattle.source.specs.Lines.{Ready}
+use Rattle.source.proofs.Program.{few-lines, numbers-length}
+use Rattle.source.proofs.Stepping.{kind-at, first-at, second-at, first-low, second-low, pair-entry}
+use Rattle.theory.specs.ProgramText.{commands}
 
 module _ {l ts es : List ℕ} {line : ℕ} {vs ps : List ℕ} (r : Ready l ts es line vs ps) where
   abbrev m : ℕ
   m = line - 1
 
-  pub inside : m < length (program l)
+  pub inside : m < length (commands l)
   inside = omega (arith, r .low, r .high)
 
   pub few : line ≤ 512
@@ -32,14 +32,8 @@ module _ {l ts es : List ℕ} {line : ℕ} {vs ps : List ℕ} (r : Ready l ts es
   pub first-in : (first-at l m < length vs) × (first-at l m < 32)
   first-in = omega (arith, first-low l (r .filled .holds) m inside, r .values-are)
 
-  pub second-in : kind-at l m ≡ 3 → (second-at l m < length vs) × (second-at l m < 32)
-  second-in e = omega (arith, second-low l (r .filled .holds) m inside e, r .values-are)
+  pub second-in : (second-at l m < length vs) × (second-at l m < 32)
+  second-in = omega (arith, second-low l (r .filled .holds) m inside, r .values-are)
 
-  pub opened-in : kind-at l m ≡ 4 → (getD es m 0 < length ps) × (getD es m 0 < 16)
-  opened-in e = omega (arith, opening-entry l (r .filled .holds) m inside es (r .filled .enters m inside) e .1, r .passes-are)
-
-  pub closed-in : kind-at l m ≡ 5 → (getD es m 0 < length ps) × (getD es m 0 < 16)
-  closed-in e = omega (arith, closing-entry l (r .filled .holds) m inside es (r .filled .enters m inside) e .1, r .passes-are)
-
-  pub pair-line : (kind-at l m ≡ 1 → ⊥) → (kind-at l m ≡ 2 → ⊥) → (kind-at l m ≡ 3 → ⊥) → 3 < kind-at l m
-  pair-line = past-plain l (r .filled .holds) m inside
+  pub pair-in : 3 < kind-at l m → (getD es m 0 < length ps) × (getD es m 0 < 16)
+  pair-in e = omega (arith, pair-entry l (r .filled .holds) m inside es (r .filled .enters m inside) e, r .passes-are)

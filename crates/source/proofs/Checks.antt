@@ -8,17 +8,18 @@ use native.Mathlib.Omega.{arith}
 use borrow.Author.Tests.{lt-ltb, le-ltb, le-leb, lt-leb, leb-true, eqb-true}
 use lib.ListN.{length, getD}
 use lib.Dec.{leb, eqb}
+use Rattle.theory.specs.Limits.{most-capacity}
 use Rattle.theory.specs.Basics.{all-below}
-use Rattle.theory.specs.ProgramText.{Command, variables}
+use Rattle.theory.specs.ProgramText.{Command, variables, commands}
 use Rattle.theory.specs.Source.{depth}
 use Rattle.theory.specs.Machines.{is-limited}
 use Rattle.theory.specs.TurnedDown.{is-value, is-passes, is-source}
 use Rattle.theory.proofs.Faults.{and-first, and-second}
 use Rattle.source.specs.Answers.{source-state}
-use Rattle.source.specs.declared.State.{State}
-use Rattle.source.specs.Lines.{program, Deep, entry-at, all-values, all-passes}
+use Rattle.source.specs.declared.answers.State.{State}
+use Rattle.source.specs.Lines.{Deep, entry-at, all-values, all-passes}
 use Rattle.source.proofs.Program.{depth-last}
-use Rattle.source.proofs.Steps.{kind-at, of-kind}
+use Rattle.source.proofs.Stepping.{kind-at, of-kind}
 use Rattle.source.proofs.Entries.{closed-depth, off-endloop}
 
 and-true : (b : Bool) → (b && true) ≡ b
@@ -54,89 +55,68 @@ all-one-more f i h e = rw (add-one i, h) e
 
 -- The loops around a line, by its entry
 module _ (l es : List ℕ) (lines line : ℕ) (d : Deep l es lines line) where
-  pub depth-past : lines < line → 0 ≡ depth (program l) line
+  pub depth-past : lines < line → 0 ≡ depth (commands l) line
   depth-past h =
-      let last : suc (length (program l)) ≡ line = omega (arith, d .lines-are, d .high) in
+      let last : suc (length (commands l)) ≡ line = omega (arith, d .lines-are, d .high) in
       sym (rw last at (depth-last l (d .holds)))
 
   module _ (here : line ≤ lines) where
     abbrev m : ℕ
     m = line - 1
 
-    inside : m < length (program l)
+    inside : m < length (commands l)
     inside = omega (arith, d .lines-are, d .low)
 
     from : line ≡ suc m
     from = omega (arith, d .low)
 
-    pub depth-endloop : kind-at l m ≡ 5 → getD es m 0 + 1 ≡ depth (program l) line
+    pub depth-endloop : kind-at l m ≡ 5 → getD es m 0 + 1 ≡ depth (commands l) line
     unfolding entry-at
     depth-endloop e =
-        let entry : getD es m 0 ≡ pred (depth (program l) (suc m)) = rw (of-kind l m 5 e) at (d .enters m inside) in
-        let closed : depth (program l) (suc m) ≡ suc (depth (program l) (suc (suc m))) = closed-depth l (d .holds) m inside e in
-        let all : getD es m 0 + 1 ≡ depth (program l) (suc m) = omega arith in
-        all ∙ ap (depth (program l)) (sym from)
+        let entry : getD es m 0 ≡ pred (depth (commands l) (suc m)) = rw (of-kind l m 5 e) at (d .enters m inside) in
+        let closed : depth (commands l) (suc m) ≡ suc (depth (commands l) (suc (suc m))) = closed-depth l (d .holds) m inside e in
+        let all : getD es m 0 + 1 ≡ depth (commands l) (suc m) = omega arith in
+        all ∙ ap (depth (commands l)) (sym from)
 
-    pub depth-other : (kind-at l m ≡ 5 → ⊥) → getD es m 0 ≡ depth (program l) line
+    pub depth-other : (kind-at l m ≡ 5 → ⊥) → getD es m 0 ≡ depth (commands l) line
     unfolding entry-at
-    depth-other ne = d .enters m inside ∙ (off-endloop l m ne (depth (program l) (suc m)) ∙ ap (depth (program l)) (sym from))
+    depth-other ne = d .enters m inside ∙ (off-endloop l m ne (depth (commands l) (suc m)) ∙ ap (depth (commands l)) (sym from))
 
 -- Rule 9, a test after the other. A test that fails is the answer
+abbrev pub limits : List Command → State → Bool
+limits p s = is-limited most-capacity (s .capacity) && is-limited (suc (length p)) (s .line)
+
+-- What the first says of the line
+pub limited-line : (p : List Command) (s : State) → limits p s ≡ true → (0 < s .line) × (s .line ≤ suc (length p))
+limited-line p s h =
+    let line : is-limited (suc (length p)) (s .line) ≡ true = and-second (is-limited most-capacity (s .capacity)) _ h in (
+      leb-true 1 (s .line) (and-first (leb 1 (s .line)) _ line),
+      leb-true (s .line) (suc (length p)) (and-second (leb 1 (s .line)) _ line),
+    )
+
 module _ (l : List ℕ) (s : State) where
   abbrev p : List Command
-  p = program l
+  p = commands l
 
-  pub no-capacity : s .capacity < 1 → false ≡ is-source p (source-state s)
+  pub bad-limits : limits p s ≡ false → false ≡ is-source p (source-state s)
   unfolding is-source
-  no-capacity h = rw (lt-leb 1 (s .capacity) h)
+  bad-limits e = rw e
 
-  module _ (some-capacity : 1 ≤ s .capacity) where
-    pub much-capacity : 1024 < s .capacity → false ≡ is-source p (source-state s)
-    unfolding is-source
-    much-capacity h = rw (le-leb 1 (s .capacity) some-capacity, lt-leb (s .capacity) 1024 h)
+  module _ (good : limits p s ≡ true) where
+    -- The values, and then the passes left
+    lists-left : (all-values (s .capacity) (variables p) (s .values) && all-passes (s .capacity) (depth p (s .line)) (s .passes))
+        ≡ is-source p (source-state s)
+    unfolding is-source all-values all-passes
+    lists-left = rw good
 
-    module _ (right-capacity : s .capacity ≤ 1024) where
-      pub no-line : s .line < 1 → false ≡ is-source p (source-state s)
-      unfolding is-source
-      no-line h = rw (le-leb 1 (s .capacity) some-capacity, le-leb (s .capacity) 1024 right-capacity, lt-leb 1 (s .line) h)
+    pub bad-values : all-values (s .capacity) (variables p) (s .values) ≡ false → false ≡ is-source p (source-state s)
+    bad-values e = (rw e refl) ∙ lists-left
 
-      module _ (some-line : 1 ≤ s .line) where
-        pub far-line : suc (length p) < s .line → false ≡ is-source p (source-state s)
-        unfolding is-source
-        far-line h =
-            rw (
-              le-leb 1 (s .capacity) some-capacity,
-              le-leb (s .capacity) 1024 right-capacity,
-              le-leb 1 (s .line) some-line,
-              lt-leb (s .line) (suc (length p)) h,
-            )
-
-        module _ (right-line : s .line ≤ suc (length p)) where
-          -- The values, and then the passes left
-          lists-left : (all-values (s .capacity) (variables p) (s .values) && all-passes (s .capacity) (depth p (s .line)) (s .passes))
-              ≡ is-source p (source-state s)
-          unfolding is-source all-values all-passes
-          lists-left =
-              rw (
-                le-leb 1 (s .capacity) some-capacity,
-                le-leb (s .capacity) 1024 right-capacity,
-                le-leb 1 (s .line) some-line,
-                le-leb (s .line) (suc (length p)) right-line,
-              )
-
-          pub bad-values : all-values (s .capacity) (variables p) (s .values) ≡ false → false ≡ is-source p (source-state s)
-          bad-values e = (rw e refl) ∙ lists-left
-
-          pub good-values : all-values (s .capacity) (variables p) (s .values) ≡ true
-              → all-passes (s .capacity) (depth p (s .line)) (s .passes) ≡ is-source p (source-state s)
-          good-values e = (rw e refl) ∙ lists-left
+    pub good-values : all-values (s .capacity) (variables p) (s .values) ≡ true
+        → all-passes (s .capacity) (depth p (s .line)) (s .passes) ≡ is-source p (source-state s)
+    good-values e = (rw e refl) ∙ lists-left
 
 -- What rule 9 says of the line
 pub good-line : (p : List Command) (s : State) → is-source p (source-state s) ≡ true → (0 < s .line) × (s .line ≤ suc (length p))
 unfolding is-source
-good-line p s h =
-    let limits : (is-limited 1024 (s .capacity) && is-limited (suc (length p)) (s .line)) ≡ true = and-first _ _ (and-first _ _ h) in
-    let line : is-limited (suc (length p)) (s .line) ≡ true = and-second (is-limited 1024 (s .capacity)) _ limits in (
-      leb-true 1 (s .line) (and-first (leb 1 (s .line)) _ line),
-      leb-true (s .line) (suc (length p)) (and-second (leb 1 (s .line)) _ line),
-    )
+good-line p s h = limited-line p s (and-first _ _ (and-first _ _ h))

@@ -12,12 +12,12 @@ use lib.ListN.{length, getD, set}
 use lib.Seq.{getD-set-same, getD-set-other}
 use lib.Dec.{eqb}
 use Rattle.theory.specs.Limits.{most-open}
-use Rattle.theory.specs.ProgramText.{Plain, clear, increment, copy, loop, while, Command, plain, opens, closes}
+use Rattle.theory.specs.ProgramText.{Plain, clear, increment, copy, loop, while, Command, plain, opens, closes, commands}
 use Rattle.theory.specs.Source.{depth}
 use Rattle.theory.proofs.Partners.{Known, depth-start}
-use Rattle.source.specs.Lines.{program, Holds, command-at, entry-of, entry-at}
+use Rattle.source.specs.Lines.{Holds, command-at, entry-of, entry-at}
 use Rattle.source.proofs.Program.{here, partner, depth-room}
-use Rattle.source.proofs.Steps.{kind-at, first-at, second-at, of-kind, by-tests}
+use Rattle.source.proofs.Stepping.{kind-at, first-at, second-at, of-kind, by-tests}
 
 -- What held of the cells below n holds of those up to n, once n has its value
 pub set-more : (P : ℕ → ℕ → Type 0) (l : List ℕ) (n x : ℕ) → n < length l → ((m : ℕ) → m < n → P m (getD l m 0)) → P n x
@@ -55,35 +55,35 @@ off-endloop l m five d = go (ℕ-discrete (kind-at l m) 4)
 
 -- n lines have been passed: as many loops are open as are around the next line
 pub record Entering (l : List ℕ) (n deep : ℕ) (es : List ℕ) : Type 0 where
-  pub count : deep ≡ depth (program l) (suc n)
+  pub count : deep ≡ depth (commands l) (suc n)
   pub entries : (m : ℕ) → m < n → getD es m 0 ≡ entry-at l m
 
 pub entering-start : (l es : List ℕ) → Entering l 0 0 es
-entering-start l es = record { count = sym (depth-start (program l)); entries = λ m h. absurd (omega arith) }
+entering-start l es = record { count = sym (depth-start (commands l)); entries = λ m h. absurd (omega arith) }
 
-module _ (l : List ℕ) (h : Holds l) (n : ℕ) (inside : n < length (program l)) where
+module _ (l : List ℕ) (h : Holds l) (n : ℕ) (inside : n < length (commands l)) where
   -- The loops around the next line
-  opened-depth : kind-at l n ≡ 4 → depth (program l) (suc (suc n)) ≡ suc (depth (program l) (suc n))
+  opened-depth : kind-at l n ≡ 4 → depth (commands l) (suc (suc n)) ≡ suc (depth (commands l) (suc n))
   opened-depth e =
-      let pair : Known (program l) (suc n) (opens loop (first-at l n)) = rw (of-kind l n 4 e) at (partner l h n inside) in
+      let pair : Known (commands l) (suc n) (opens loop (first-at l n)) = rw (of-kind l n 4 e) at (partner l h n inside) in
       pair .1 .body-depth
 
-  pub closed-depth : kind-at l n ≡ 5 → depth (program l) (suc n) ≡ suc (depth (program l) (suc (suc n)))
+  pub closed-depth : kind-at l n ≡ 5 → depth (commands l) (suc n) ≡ suc (depth (commands l) (suc (suc n)))
   closed-depth e =
-      let pair : Known (program l) (suc n) (closes loop (first-at l n)) = rw (of-kind l n 5 e) at (partner l h n inside) in
+      let pair : Known (commands l) (suc n) (closes loop (first-at l n)) = rw (of-kind l n 5 e) at (partner l h n inside) in
       pair .1 .close-depth ∙ ap suc (sym (pair .1 .after-depth))
 
   abbrev Even : Command → Type 0
-  Even c = Known (program l) (suc n) c
-      → (depth (program l) (suc (suc n)) ≡ depth (program l) (suc n))
-      × (entry-of c (depth (program l) (suc n)) ≡ depth (program l) (suc n))
+  Even c = Known (commands l) (suc n) c
+      → (depth (commands l) (suc (suc n)) ≡ depth (commands l) (suc n))
+      × (entry-of c (depth (commands l) (suc n)) ≡ depth (commands l) (suc n))
 
   same-depth : (kind-at l n ≡ 4 → ⊥) → (kind-at l n ≡ 5 → ⊥) → Even (command-at l n)
   same-depth four five = off-loops Even l n (λ c k. (k, refl)) (λ i k. (k .1 .body-depth, refl))
       (λ i k. (k .1 .after-depth ∙ sym (k .1 .close-depth), refl)) four five
 
   module _ (deep : ℕ) (es : List ℕ) (before : Entering l n deep es) (room : n < length es) where
-    entered-as : (x deep′ : ℕ) → x ≡ entry-at l n → deep′ ≡ depth (program l) (suc (suc n)) → Entering l (n + 1) deep′ (set es n x)
+    entered-as : (x deep′ : ℕ) → x ≡ entry-at l n → deep′ ≡ depth (commands l) (suc (suc n)) → Entering l (n + 1) deep′ (set es n x)
     entered-as x deep′ e o = record {
       count = rw (add-one n) o;
       entries = set-more (λ m v. v ≡ entry-at l m) es n x room (before .entries) e;
@@ -96,7 +96,7 @@ module _ (l : List ℕ) (h : Holds l) (n : ℕ) (inside : n < length (program l)
     pub entering-closes : kind-at l n ≡ 5 → Entering l (n + 1) (deep - 1) (set es n (deep - 1))
     unfolding entry-at
     entering-closes e =
-        let less : deep - 1 ≡ pred (depth (program l) (suc n)) = omega (arith, before .count) in
+        let less : deep - 1 ≡ pred (depth (commands l) (suc n)) = omega (arith, before .count) in
         entered-as (deep - 1) (deep - 1) (less ∙ rw (of-kind l n 5 e)) (omega (arith, closed-depth e))
 
     pub entering-other : (kind-at l n ≡ 4 → ⊥) → (kind-at l n ≡ 5 → ⊥) → Entering l (n + 1) deep (set es n deep)

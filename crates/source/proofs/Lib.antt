@@ -1,5 +1,5 @@
 pub mod Program
-pub mod Steps
+pub mod Stepping
 pub mod Bounds
 pub mod Entries
 pub mod Targets

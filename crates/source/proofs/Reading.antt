@@ -8,18 +8,18 @@ use borrow.Author.Tests.{le-leb}
 use lib.ListN.{length, take, drop}
 use lib.Seq.{take-at}
 use Rattle.theory.specs.TurnedDown.{read-program-into}
-use Rattle.theory.specs.ProgramText.{Command, variables, list-of}
+use Rattle.theory.specs.ProgramText.{Command, variables, list-of, commands}
 use Rattle.theory.specs.TurnedDown.{Answer, done, refused, answer, after, mapped, read-text, read-list, rule-19, lent-after}
 use Rattle.theory.specs.Claims.{Accepted}
 use Rattle.theory.specs.declared.Refusal.{Refusal}
 use Rattle.theory.proofs.Nesting.{short, list-read, reads-accepted}
-use Rattle.theory.proofs.Lists.{lists-round-trip}
+use Rattle.theory.proofs.Lists.{commands-list, lists-round-trip}
 use Rattle.program.specs.Answers.{program-of, checked}
 use Rattle.program.specs.declared.Program.{Program}
 use Rattle.program.specs.declared.Checked.the-variants as C
 use Rattle.program.proofs.Lists.{list-length}
-use Rattle.source.specs.Lines.{program, Holds, Given}
-use Rattle.source.proofs.Program.{program-list, holds-list}
+use Rattle.source.specs.Lines.{Holds, Given}
+use Rattle.source.proofs.Program.{holds-list}
 
 -- An accepted answer, and a refused one
 pub record AcceptedAs (a : Answer (List Command)) (x : Program) : Type 0 where
@@ -39,18 +39,18 @@ refused-as (done p) x e = let z : _≡_ {A = ℕ} 0 1 = cc in absurd (omega arit
 refused-as (refused r) x e = let same : r ≡ x = cc in ap refused same
 
 -- A list that is read as p holds p
-pub read-program : (l : List ℕ) (p : List Command) → read-list l ≡ done p → program l ≡ p
-unfolding program
+pub read-program : (l : List ℕ) (p : List Command) → read-list l ≡ done p → commands l ≡ p
+unfolding commands
 read-program l p e = list-read l p e .1
 
 pub read-holds : (l : List ℕ) (p : List Command) → read-list l ≡ done p → Holds l
 read-holds l p e =
-    let same : program l ≡ p = read-program l p e in
+    let same : commands l ≡ p = read-program l p e in
     record { whole = rw same (lists-round-trip .1 l p e); accepted = rw same (reads-accepted .1 l p e) }
 
 pub read-given : (l : List ℕ) (x : Program) (a : AcceptedAs (read-list l) x) → Given l (x .lines) (x .variables)
 read-given l x a =
-    let same : program l ≡ a .commands = read-program l (a .commands) (a .is-done) in
+    let same : commands l ≡ a .commands = read-program l (a .commands) (a .is-done) in
     record {
       holds = read-holds l (a .commands) (a .is-done);
       lines-are = rw same (a .lines-are);
@@ -98,9 +98,9 @@ module _ (lent : List ℕ) (t : List ℕ) (size : length lent ≡ 1536) where
     pub text-given : Given (take (3 * x .lines) last) (x .lines) (x .variables)
     text-given = rw numbers-are (record {
       holds = holds-list p accepts;
-      lines-are = rw (program-list p) (a .lines-are);
-      variables-are = rw (program-list p) (a .variables-are);
+      lines-are = rw (commands-list p) (a .lines-are);
+      variables-are = rw (commands-list p) (a .variables-are);
     })
 
-    pub text-program : program (take (3 * x .lines) last) ≡ p
-    text-program = rw numbers-are (program-list p)
+    pub text-program : commands (take (3 * x .lines) last) ≡ p
+    text-program = rw numbers-are (commands-list p)

@@ -7,7 +7,7 @@ use native.Mathlib.Omega.{arith}
 use lib.ListN.{length, getD, replicate}
 use Rattle.theory.specs.Limits.{last-count, state-values, state-passes}
 use Rattle.theory.specs.Basics.{cells}
-use Rattle.theory.specs.ProgramText.{Command}
+use Rattle.theory.specs.ProgramText.{Command, commands}
 use Rattle.theory.specs.Runs.{run}
 use Rattle.theory.specs.Source as S
 use Rattle.theory.specs.Machines.{SourceState, run-source}
@@ -15,10 +15,10 @@ use Rattle.theory.specs.TurnedDown.{refused, is-source, rule-9, run-from}
 use Rattle.theory.specs.declared.Refusal.{Refusal}
 use Rattle.theory.proofs.Budgets.{steps-within}
 use Rattle.source.specs.Answers.{stands, source-state, fresh-state, Fresh, ended-by, state-by, moved-by, HandsBack}
-use Rattle.source.specs.Lines.{program, machine-of, run-at, outcome-of}
-use Rattle.source.specs.declared.State.{State}
-use Rattle.source.specs.declared.Stop.{Stop}
-use Rattle.source.specs.declared.Ended.the-variants as E
+use Rattle.source.specs.Lines.{machine-of, run-at, outcome-of}
+use Rattle.source.specs.declared.answers.State.{State}
+use Rattle.source.specs.declared.steps.Stop.{Stop}
+use Rattle.source.specs.declared.answers.Ended.the-variants as E
 use Rattle.theory.proofs.Counts.{allows, same-allowed}
 
 -- A fresh state
@@ -66,9 +66,13 @@ module _ (l : List ℕ) (s : State) (budget : ℕ) (r : Stop) (vs ps : List ℕ)
       let few : _ = steps-within (machine-of l (s .capacity)) (allows budget (s .steps)) 0 (stands (s .line) (s .values) (s .passes)) in
       rw ran at few
 
-  pub run-back : s .steps ≤ last-count → is-source (program l) (source-state s) ≡ true
+  pub run-back : s .steps ≤ last-count → is-source (commands l) (source-state s) ≡ true
       → length vs ≡ state-values → length ps ≡ state-passes
-      → HandsBack s (run-from (source-state s) budget (program l)) (record { state = stopped s r vs ps; ended = E.Ran (r .end) (r .taken) })
+      → HandsBack s (run-from (source-state s) budget (commands l)) (record {
+        state = stopped s r vs ps;
+        ended = E.Ran (r .end)
+            (r .taken);
+      })
   unfolding run-from rule-9 run-source run-at ended-by state-by moved-by
   run-back counted good v p =
       let from : S.State = stands (s .line) (s .values) (s .passes) in

@@ -10,14 +10,14 @@ use lib.ListN.{length, getD, set, drop, length-set}
 use lib.Seq.{getD-set-same, getD-set-other}
 use Rattle.theory.specs.Limits.{most-open}
 use Rattle.theory.specs.Basics.{at}
-use Rattle.theory.specs.ProgramText.{Plain, clear, increment, copy, Kind, loop, while, Command, plain, opens, closes}
+use Rattle.theory.specs.ProgramText.{Plain, clear, increment, copy, Kind, loop, while, Command, plain, opens, closes, commands}
 use Rattle.theory.specs.ProgramText.{Opening, open-next}
 use Rattle.theory.specs.Source.{innermost, open-at, opening, closing}
 use Rattle.theory.proofs.Cells.{at-within}
 use Rattle.theory.proofs.Partners.{Known, Partners}
-use Rattle.source.specs.Lines.{program, Holds, command-at, Reaches}
+use Rattle.source.specs.Lines.{Holds, command-at, Reaches}
 use Rattle.source.proofs.Program.{here, kind-within, past-plain, partner, open-more, open-room}
-use Rattle.source.proofs.Steps.{kind-at, first-at, second-at, of-kind}
+use Rattle.source.proofs.Stepping.{kind-at, first-at, second-at, of-kind}
 
 -- The stack has the lines that are open, counted from 0, the innermost last
 abbrev pub Stacked : List ℕ → List Opening → Type 0
@@ -52,10 +52,10 @@ due-by p n (closes k i) = 0
 
 -- n lines have been passed
 pub record Linking (l : List ℕ) (n deep : ℕ) (st ts : List ℕ) : Type 0 where
-  pub count : deep ≡ length (open-at (program l) (suc n))
-  pub stack : Stacked st (open-at (program l) (suc n))
-  pub targets : (m : ℕ) → m < n → due-by (program l) (suc m) (command-at l m) ≤ n
-      → Reaches (program l) (suc m) (command-at l m) (getD ts m 0)
+  pub count : deep ≡ length (open-at (commands l) (suc n))
+  pub stack : Stacked st (open-at (commands l) (suc n))
+  pub targets : (m : ℕ) → m < n → due-by (commands l) (suc m) (command-at l m) ≤ n
+      → Reaches (commands l) (suc m) (command-at l m) (getD ts m 0)
 
 pub linking-start : (l st ts : List ℕ) → Linking l 0 0 st ts
 unfolding open-at
@@ -63,15 +63,15 @@ linking-start l st ts = record { count = refl; stack = tt; targets = λ m h. abs
 
 -- Every pair is closed by the last line
 module _ (l : List ℕ) (h : Holds l) where
-  due-at-last : (m : ℕ) → m < length (program l) → (c : Command) → command-at l m ≡ c → Known (program l) (suc m) c
-      → due-by (program l) (suc m) c ≤ length (program l)
+  due-at-last : (m : ℕ) → m < length (commands l) → (c : Command) → command-at l m ≡ c → Known (commands l) (suc m) c
+      → due-by (commands l) (suc m) c ≤ length (commands l)
   due-at-last m inside (plain c) e k = omega arith
   due-at-last m inside (opens k i) e pair =
-      rw (pair .1 .closing-is) (at-within (program l) (pair .0) (closes k i) (pair .1 .close-line) .1)
+      rw (pair .1 .closing-is) (at-within (commands l) (pair .0) (closes k i) (pair .1 .close-line) .1)
   due-at-last m inside (closes k i) e k′ = omega arith
 
-  pub linking-end : (deep : ℕ) (st ts : List ℕ) → Linking l (length (program l)) deep st ts
-      → (m : ℕ) → m < length (program l) → Reaches (program l) (suc m) (command-at l m) (getD ts m 0)
+  pub linking-end : (deep : ℕ) (st ts : List ℕ) → Linking l (length (commands l)) deep st ts
+      → (m : ℕ) → m < length (commands l) → Reaches (commands l) (suc m) (command-at l m) (getD ts m 0)
   linking-end deep st ts k m inside =
       k .targets m inside (due-at-last m inside (command-at l m) refl (partner l h m inside))
 
@@ -80,10 +80,10 @@ past-six : (k : ℕ) → 4 ≤ k → k ≤ 7 → (k ≡ 4 → ⊥) → (k ≡ 5 
 past-six k low high a b c = omega arith
 
 -- Line n is passed
-module _ (l : List ℕ) (h : Holds l) (n : ℕ) (inside : n < length (program l))
+module _ (l : List ℕ) (h : Holds l) (n : ℕ) (inside : n < length (commands l))
     (deep : ℕ) (st ts : List ℕ) (before : Linking l n deep st ts) where
   abbrev p : List Command
-  p = program l
+  p = commands l
 
   -- A pair that the line closes
   closed-here : (m : ℕ) → m < n → (k : Kind) (i : ℕ) → command-at l m ≡ opens k i → closing p (suc m) ≡ suc n

@@ -15,27 +15,28 @@ use Rattle.theory.specs.Source as S
 use Rattle.theory.specs.declared.End.{End}
 use Rattle.theory.specs.declared.End.the-variants.{Halted, Spent, Full}
 use Rattle.theory.proofs.Budgets.{Underway, underway-start, underway-ended, underway-spent, underway-full, underway-step}
+use Rattle.theory.specs.ProgramText.{commands}
 use Rattle.source.specs.Answers.{stands}
-use Rattle.source.specs.Lines.{program, Stepped, machine-of, run-at}
-use Rattle.source.specs.declared.Next.the-variants as N
+use Rattle.source.specs.Lines.{Stepped, machine-of, run-at}
+use Rattle.source.specs.declared.steps.Next.the-variants as N
 
 -- Of the run that ends as o, so many steps are taken, and it stands so
 pub record Going (l : List ℕ) (capacity : ℕ) (o : Outcome S.State) (allowed taken line : ℕ) (vs ps : List ℕ) : Type 0 where
   pub low : 0 < line
-  pub high : line ≤ suc (length (program l))
+  pub high : line ≤ suc (length (commands l))
   pub values-are : length vs ≡ state-values
   pub passes-are : length ps ≡ state-passes
   pub enough : taken ≤ allowed
   pub left : Underway (machine-of l capacity) o taken (allowed - taken) taken (stands line vs ps)
 
 module _ (l : List ℕ) (capacity line : ℕ) (vs ps : List ℕ) where
-  halted-at : line ≡ suc (length (program l)) → machine-of l capacity .ended (stands line vs ps) ≡ some Halted
-  halted-at e = rw (eq-eqb line (suc (length (program l))) e)
+  halted-at : line ≡ suc (length (commands l)) → machine-of l capacity .ended (stands line vs ps) ≡ some Halted
+  halted-at e = rw (eq-eqb line (suc (length (commands l))) e)
 
-  goes-at : line ≤ length (program l) → machine-of l capacity .ended (stands line vs ps) ≡ none
-  goes-at h = rw (ne-eqb line (suc (length (program l))) (λ e. omega arith))
+  goes-at : line ≤ length (commands l) → machine-of l capacity .ended (stands line vs ps) ≡ none
+  goes-at h = rw (ne-eqb line (suc (length (commands l))) (λ e. omega arith))
 
-pub going-start : (l : List ℕ) (capacity line : ℕ) (vs ps : List ℕ) (allowed : ℕ) → 0 < line → line ≤ suc (length (program l))
+pub going-start : (l : List ℕ) (capacity line : ℕ) (vs ps : List ℕ) (allowed : ℕ) → 0 < line → line ≤ suc (length (commands l))
     → length vs ≡ state-values → length ps ≡ state-passes
     → Going l capacity (run-at l capacity line vs ps allowed) allowed 0 line vs ps
 unfolding run-at
@@ -58,15 +59,15 @@ module _ (l : List ℕ) (capacity : ℕ) (o : Outcome S.State) (allowed taken li
   abbrev ends : End → Outcome S.State
   ends e = record { end = e; steps = taken; state = stands line vs ps }
 
-  pub going-halted : length (program l) < line → o ≡ ends Halted
+  pub going-halted : length (commands l) < line → o ≡ ends Halted
   going-halted past =
-      let at-end : line ≡ suc (length (program l)) = omega (arith, g .high) in
+      let at-end : line ≡ suc (length (commands l)) = omega (arith, g .high) in
       underway-ended M o taken (allowed - taken) taken (stands line vs ps) (g .left) Halted (halted-at l capacity line vs ps at-end)
 
   abbrev at : S.State
   at = stands line vs ps
 
-  module _ (here : line ≤ length (program l)) where
+  module _ (here : line ≤ length (commands l)) where
     goes : M .ended at ≡ none
     goes = goes-at l capacity line vs ps here
 
@@ -84,13 +85,13 @@ module _ (l : List ℕ) (capacity : ℕ) (o : Outcome S.State) (allowed taken li
       counted : ltb taken last-count ≡ true
       counted = lt-ltb taken last-count (omega (arith, g .enough))
 
-      pub going-full : (vs′ ps′ : List ℕ) → Stepped (program l) capacity line vs ps N.Full vs′ ps′
+      pub going-full : (vs′ ps′ : List ℕ) → Stepped (commands l) capacity line vs ps N.Full vs′ ps′
           → o ≡ record { end = Full; steps = taken; state = stands line vs′ ps′ }
       going-full vs′ ps′ step =
           rw (step .kept .0, step .kept .1)
           (underway-full M o taken (allowed - taken) taken at (g .left) b one-less goes counted (step .next))
 
-      pub going-on : (next : ℕ) (vs′ ps′ : List ℕ) → Stepped (program l) capacity line vs ps (N.At next) vs′ ps′
+      pub going-on : (next : ℕ) (vs′ ps′ : List ℕ) → Stepped (commands l) capacity line vs ps (N.At next) vs′ ps′
           → length vs′ ≡ length vs → length ps′ ≡ length ps → Going l capacity o allowed (taken + 1) next vs′ ps′
       unfolding b
       going-on next vs′ ps′ step v p = record {

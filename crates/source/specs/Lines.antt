@@ -3,35 +3,34 @@ use mathlib.Core.Path.{_≡_}
 use mathlib.Core.Bool.{Bool, cond}
 use mathlib.Core.Option.{Option, none, some}
 use mathlib.Core.List.{List}
-use Prim.Native.Nat.{ℕ, suc, pred, _+_, _*_, _≤_, _<_}
+use Prim.Native.Nat.{ℕ, suc, pred, _+_, _-_, _*_, _≤_, _<_}
 use lib.ListN.{length, getD}
-use lib.Dec.{eqb}
+use lib.Dec.{eqb, leb}
 use Rattle.theory.specs.Limits.{state-values, state-passes}
-use Rattle.theory.specs.Basics.{present, all-below}
-use Rattle.theory.specs.ProgramText.{Command, plain, clear, increment, copy, opens, closes, loop, while, list-of, listed, variables}
+use Rattle.theory.specs.Basics.{all-below}
+use Rattle.theory.specs.ProgramText.{Command, plain, clear, increment, copy, opens, closes, loop, while, list-of, variables, commands}
 use Rattle.theory.specs.Runs.{Machine, Outcome, run, within}
 use Rattle.theory.specs.Source as S
 use Rattle.theory.specs.TurnedDown.{is-value, is-passes}
 use Rattle.theory.specs.Claims.{Accepted}
 use Rattle.source.specs.Answers.{stands}
-use Rattle.source.specs.declared.Next.{Next}
-use Rattle.source.specs.declared.Next.the-variants as N
-use Rattle.source.specs.declared.Stop.{Stop}
-
--- The program that a list holds, three numbers a command
-unfoldable pub program : List ℕ → List Command
-program l = present (listed l)
+use Rattle.source.specs.declared.steps.Stored.{Stored}
+use Rattle.source.specs.declared.steps.Stored.the-variants as Stored
+use Rattle.source.specs.declared.steps.Led.{Led}
+use Rattle.source.specs.declared.steps.Next.{Next}
+use Rattle.source.specs.declared.steps.Next.the-variants as N
+use Rattle.source.specs.declared.steps.Stop.{Stop}
 
 -- The list holds an accepted program, and nothing else
 pub record Holds (l : List ℕ) : Type 0 where
-  pub whole : list-of (program l) ≡ l
-  pub accepted : Accepted (program l)
+  pub whole : list-of (commands l) ≡ l
+  pub accepted : Accepted (commands l)
 
 -- A list that holds a program of so many lines and variables
 pub record Given (l : List ℕ) (lines K : ℕ) : Type 0 where
   pub holds : Holds l
-  pub lines-are : lines ≡ length (program l)
-  pub variables-are : K ≡ variables (program l)
+  pub lines-are : lines ≡ length (commands l)
+  pub variables-are : K ≡ variables (commands l)
 
 -- The command of three numbers, of which the first is a kind, 1 to 7
 abbrev pub decoded : ℕ → ℕ → ℕ → Command
@@ -58,7 +57,7 @@ entry-of (closes loop i) d = pred d
 entry-of (closes while i) d = d
 
 unfoldable pub entry-at : List ℕ → ℕ → ℕ
-entry-at l m = entry-of (command-at l m) (S.depth (program l) (suc m))
+entry-at l m = entry-of (command-at l m) (S.depth (commands l) (suc m))
 
 -- Targets: the line to which a step jumps where it does not go to the next one
 
@@ -75,31 +74,46 @@ Reaches p n (closes while i) t = Jump p (S.opening p n) t
 
 -- The tables are filled for every line
 abbrev pub Entered : List ℕ → List ℕ → Type 0
-Entered l entries = (m : ℕ) → m < length (program l) → getD entries m 0 ≡ entry-at l m
+Entered l entries = (m : ℕ) → m < length (commands l) → getD entries m 0 ≡ entry-at l m
 
 abbrev pub Linked : List ℕ → List ℕ → Type 0
-Linked l targets = (m : ℕ) → m < length (program l) → Reaches (program l) (suc m) (command-at l m) (getD targets m 0)
+Linked l targets = (m : ℕ) → m < length (commands l) → Reaches (commands l) (suc m) (command-at l m) (getD targets m 0)
 
 pub record Filled (l targets entries : List ℕ) : Type 0 where
   pub holds : Holds l
   pub jumps : Linked l targets
   pub enters : Entered l entries
-  pub targets-room : length (program l) ≤ length targets
-  pub entries-room : length (program l) ≤ length entries
+  pub targets-room : length (commands l) ≤ length targets
+  pub entries-room : length (commands l) ≤ length entries
 
 -- A list that holds a program of so many lines, with tables that have room for them
 pub record Fits (l : List ℕ) (lines : ℕ) (table : List ℕ) : Type 0 where
   pub holds : Holds l
-  pub lines-are : lines ≡ length (program l)
+  pub lines-are : lines ≡ length (commands l)
   pub room : lines ≤ length table
 
 -- A step
+
+-- What a plain command of kind k stores, by what its first variable holds and its second
+unfoldable pub stored : ℕ → ℕ → ℕ → ℕ → Stored
+stored k held source capacity =
+    cond (eqb k 1) (Stored.Value 0)
+    (cond (eqb k 2) (cond (leb (suc held) capacity) (Stored.Value (held + 1)) Stored.Full)
+    (cond (leb source capacity) (Stored.Value source) Stored.Full))
+
+-- Where a line of a pair of kind k leads, and the passes left then, by what its variable holds and the passes left before
+unfoldable pub led : ℕ → ℕ → ℕ → ℕ → ℕ → Led
+led k held left next target =
+    cond (eqb k 4) (cond (eqb held 0) (record { line = target; left = left }) (record { line = next; left = held }))
+    (cond (eqb k 5) (cond (leb left 1) (record { line = next; left = 0 }) (record { line = target; left = left - 1 }))
+    (cond (eqb k 6) (cond (eqb held 0) (record { line = target; left = left }) (record { line = next; left = left }))
+    (record { line = target; left = left })))
 
 -- The tables are filled, the line is one of the program, and the lists are those of a state
 pub record Ready (l targets entries : List ℕ) (line : ℕ) (vs ps : List ℕ) : Type 0 where
   pub filled : Filled l targets entries
   pub low : 0 < line
-  pub high : line ≤ length (program l)
+  pub high : line ≤ length (commands l)
   pub values-are : length vs ≡ state-values
   pub passes-are : length ps ≡ state-passes
 
@@ -128,14 +142,14 @@ pub record Stepped (p : List Command) (capacity line : ℕ) (vs ps : List ℕ) (
 -- The same, of a program of so many lines; the line may be the one after the last
 pub record Startable (l targets entries : List ℕ) (lines line : ℕ) (vs ps : List ℕ) : Type 0 where
   pub filled : Filled l targets entries
-  pub lines-are : lines ≡ length (program l)
+  pub lines-are : lines ≡ length (commands l)
   pub low : 0 < line
-  pub high : line ≤ suc (length (program l))
+  pub high : line ≤ suc (length (commands l))
   pub values-are : length vs ≡ state-values
   pub passes-are : length ps ≡ state-passes
 
 abbrev pub machine-of : List ℕ → ℕ → Machine S.State
-machine-of l capacity = S.machine (within capacity) (program l)
+machine-of l capacity = S.machine (within capacity) (commands l)
 
 -- A run of so many steps at most, from a count of 0
 unfoldable pub run-at : List ℕ → ℕ → ℕ → List ℕ → List ℕ → ℕ → Outcome S.State
@@ -157,7 +171,7 @@ all-passes capacity D ps = all-below state-passes (λ d. is-passes capacity D d 
 pub record Deep (l entries : List ℕ) (lines line : ℕ) : Type 0 where
   pub holds : Holds l
   pub enters : Entered l entries
-  pub room : length (program l) ≤ length entries
-  pub lines-are : lines ≡ length (program l)
+  pub room : length (commands l) ≤ length entries
+  pub lines-are : lines ≡ length (commands l)
   pub low : 0 < line
-  pub high : line ≤ suc (length (program l))
+  pub high : line ≤ suc (length (commands l))

@@ -12,8 +12,8 @@ use lib.ListN.{length, getD, drop, length-append, length-drop, drop-of-length-le
 use lib.Seq.{drop-cons, getD-drop}
 use Rattle.theory.specs.Text.{Bytes, Found, digits, value-after, proper, numeral, name}
 use Rattle.theory.proofs.Numerals.{value-grows, digits-split}
-use Rattle.text.specs.declared.read.Number.the-variants.{To, No}
-use Rattle.text.specs.declared.read.Digits.{Digits}
+use Rattle.text.specs.declared.Number.the-variants.{To, No}
+use Rattle.text.specs.declared.Digits.{Digits}
 use Rattle.text.specs.Numbers.{found-in, DigitsTo}
 
 -- Digits

@@ -4,9 +4,9 @@ use mathlib.Core.Option.{Option, none, some}
 use Prim.Native.Nat.{ℕ, _+_, _-_, min}
 use lib.ListN.{length, drop}
 use Rattle.theory.specs.Text.{Bytes, Found, digits, value-after}
-use Rattle.text.specs.declared.read.Number.{Number}
-use Rattle.text.specs.declared.read.Number.the-variants.{To, No}
-use Rattle.text.specs.declared.read.Digits.{Digits}
+use Rattle.text.specs.declared.Number.{Number}
+use Rattle.text.specs.declared.Number.the-variants.{To, No}
+use Rattle.text.specs.declared.Digits.{Digits}
 
 -- What was found in a text of n bytes
 abbrev pub found-in : ℕ → ℕ → Option (Found ℕ) → Number

@@ -37,7 +37,7 @@ both a b p q = rw (p, q)
 AllFive : Bool → Bool → Bool → Bool → Bool → Type 0
 AllFive a b c d e = (a ≡ true) × (b ≡ true) × (c ≡ true) × (d ≡ true) × (e ≡ true)
 
-and-five : (a b c d e : Bool) → (a && b && c && d && e) ≡ true → AllFive a b c d e
+and-five : (a b c d e : Bool) → ((a && b && c && d) && e) ≡ true → AllFive a b c d e
 unfolding AllFive
 and-five true true true true e h = (refl, refl, refl, refl, h)
 and-five true true true false e h = absurd (false≢true h)

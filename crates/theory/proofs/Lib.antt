@@ -9,6 +9,7 @@ pub mod GoodSource
 pub mod Faults
 pub mod Writes
 pub mod Words
+pub mod Entries
 pub mod Endings
 pub mod Ends
 pub mod Cells

@@ -7,7 +7,7 @@ use Prim.Native.Nat.{ℕ}
 use lib.Dec.{eqb}
 use borrow.Author.Tests.{eqb-true}
 use Rattle.theory.specs.Basics.{present}
-use Rattle.theory.specs.ProgramText.{clear, increment, copy, loop, while, Command, plain, opens, closes}
+use Rattle.theory.specs.ProgramText.{clear, increment, copy, loop, while, Command, plain, opens, closes, commands}
 use Rattle.theory.specs.ProgramText.{numbers, list-of, command-of-kind, command-of, listed}
 use Rattle.theory.specs.TurnedDown.{done, read-list}
 use Rattle.theory.specs.Claims.{Accepted, ListRoundTrip}
@@ -29,6 +29,10 @@ listed-list (closes while i ∷ p) = rw (listed-list p)
 pub present-some : {A : Type 0} (l : List A) → present (map some l) ≡ l
 present-some [] = refl
 present-some (x ∷ l) = rw (present-some l)
+
+pub commands-list : (p : List Command) → commands (list-of p) ≡ p
+unfolding commands
+commands-list p = rw (listed-list p, present-some p)
 
 -- Writing undoes reading
 
@@ -78,7 +82,7 @@ list-listed (k ∷ i ∷ j ∷ l) (c ∷ p) e =
     rw (numbers-of k i j c first, list-listed l p rest)
 
 pub lists-round-trip : ListRoundTrip
-unfolding read-list
+unfolding read-list commands
 lists-round-trip = (there, back)
   where
     there : (p : List Command) → Accepted p → read-list (list-of p) ≡ done p

@@ -18,6 +18,7 @@ use Rattle.theory.specs.TurnedDown.{done, unless, rule-1, rule-2, rule-3
 use Rattle.theory.specs.TurnedDown.{lines-fault, program-fault, text-lines, text-fault, read-text, read-list}
 use Rattle.theory.specs.Claims.{Accepted, ReadsAccepted, WellNested}
 use Rattle.theory.specs.declared.Refusal.{Refusal}
+use Rattle.theory.specs.ProgramText.{commands}
 use Rattle.theory.proofs.Faults.{none-first, none-second, neither, answer-done, unless-none, and-first, and-second}
 
 kinds : (k l : Kind) → same-kind k l ≡ true → k ≡ l
@@ -131,7 +132,7 @@ unfolding read-text
 text-read t p e = answer-done (text-fault t) (present (text-lines t)) p e
 
 pub list-read : (l : List ℕ) (p : List Command) → read-list l ≡ done p → (program-fault (listed l) ≡ none) × (present (listed l) ≡ p)
-unfolding read-list
+unfolding read-list commands
 list-read l p e = answer-done (program-fault (listed l)) (present (listed l)) p e
 
 pub text-sound : (t : Bytes) → text-fault t ≡ none → program-fault (text-lines t) ≡ none

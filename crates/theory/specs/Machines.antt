@@ -82,14 +82,16 @@ is-laid capacity n b = leb n capacity && all is-symbol (take n b) && all (eqb 0)
 abbrev pub is-limited : ℕ → ℕ → Bool
 is-limited most n = leb 1 n && leb n most
 
--- Rule 10's sizes and layout
-unfoldable pub is-memory : Memory → Bool
-is-memory m =
+-- Rule 10's sizes, and its layout
+abbrev pub is-sized : Memory → Bool
+is-sized m =
     is-limited most-registers (m .count)
     && is-limited most-capacity (m .capacity)
     && eqb (length (m .store)) (offset (m .capacity) (suc (m .count)))
     && eqb (length (m .lengths)) (m .count)
-    && all-below (m .count) (λ i. is-laid (m .capacity) (getD (m .lengths) i 0) (place-of m (suc i)))
+
+unfoldable pub is-memory : Memory → Bool
+is-memory m = is-sized m && all-below (m .count) (λ i. is-laid (m .capacity) (getD (m .lengths) i 0) (place-of m (suc i)))
 
 -- The memory with other contents
 abbrev pub refilled : Memory → (ℕ → List Symbol) → Memory

@@ -4,7 +4,7 @@ use mathlib.Core.Option.{Option, none, some, Option·map}
 use mathlib.Core.List.{List, [], _∷_, _++_}
 use Prim.Native.Nat.{ℕ, suc, max}
 use lib.Dec.{eqb}
-use Rattle.theory.specs.Basics.{given, or-else, and-then}
+use Rattle.theory.specs.Basics.{given, or-else, and-then, present}
 use Rattle.theory.specs.Text.{Bytes, bytes, LF, following, same, name, name-of}
 
 -- Commands
@@ -106,12 +106,15 @@ command-of-kind k i =
 unfoldable pub command-of : ℕ → ℕ → ℕ → Option Command
 command-of k i j = cond (eqb k 3) (some (plain (copy i j))) (cond (eqb j 0) (command-of-kind k i) none)
 
--- The commands of a list; "a last command cut short (still counted)" is none
+-- The commands of a list; "a last command cut short (still counted)" is none. Of a list that is accepted they are its program
 unfoldable pub listed : List ℕ → List (Option Command)
 listed [] = []
 listed (k ∷ []) = none ∷ []
 listed (k ∷ i ∷ []) = none ∷ []
 listed (k ∷ i ∷ j ∷ l) = command-of k i j ∷ listed l
+
+unfoldable pub commands : List ℕ → List Command
+commands l = present (listed l)
 
 -- Pairs that are open, the innermost first: the line that opened each, its kind and its variable
 pub record Opening : Type 0 where

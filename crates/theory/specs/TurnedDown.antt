@@ -8,7 +8,7 @@ use lib.Dec.{eqb, ltb, leb}
 use Rattle.theory.specs.Limits
 use Rattle.theory.specs.Basics.{given, or-else, and-then, default, present, all, all-below}
 use Rattle.theory.specs.Text.{Bytes, split-lines, ends-in-LF}
-use Rattle.theory.specs.ProgramText.{Kind, loop, while, Command, plain, opens, closes, indices, above, variables, command}
+use Rattle.theory.specs.ProgramText.{Kind, loop, while, Command, plain, opens, closes, indices, above, variables, command, commands}
 use Rattle.theory.specs.ProgramText.{listed, list-of, text-of, Opening, open-next}
 use Rattle.theory.specs.Runs.{Outcome}
 use Rattle.theory.specs.Source as S
@@ -103,7 +103,7 @@ unfoldable pub read-text : Bytes → Answer (List Command)
 read-text t = answer (text-fault t) (present (text-lines t))
 
 unfoldable pub read-list : List ℕ → Answer (List Command)
-read-list l = answer (program-fault (listed l)) (present (listed l))
+read-list l = answer (program-fault (listed l)) (commands l)
 
 -- Source states: rule 9
 

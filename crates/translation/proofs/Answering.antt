@@ -8,7 +8,7 @@ use lib.Seq.{take-at}
 use borrow.Author.Tests.{le-leb, lt-leb}
 use Rattle.theory.specs.TurnedDown.{translate-into}
 use Rattle.theory.specs.Text.{Bytes}
-use Rattle.theory.specs.ProgramText.{Command, list-of}
+use Rattle.theory.specs.ProgramText.{Command, list-of, commands}
 use Rattle.theory.specs.Translation.{word-text}
 use Rattle.theory.specs.TurnedDown.{Answer, done, refused, mapped, rule-19, read-text, read-list, lent-after, read-program-into}
 use Rattle.theory.specs.declared.Refusal.{Refusal}
@@ -21,7 +21,7 @@ use Rattle.program.specs.declared.Checked.{Checked}
 use Rattle.program.specs.declared.Checked.the-variants as C
 use Rattle.program.proofs.Replies.{checked-refused, checked-accepted}
 use Rattle.translation.specs.Answers.{size-of, Answered}
-use Rattle.translation.specs.Sites.{program-of, Known}
+use Rattle.translation.specs.Sites.{Known}
 use Rattle.translation.specs.declared.Size.{Size}
 use Rattle.translation.specs.declared.Translated.the-variants as T
 use Rattle.program.proofs.Lists.{list-length}
@@ -49,9 +49,9 @@ answered-done A p out out′ s e h o z =
 
 pub known : (list : List ℕ) (p : List Command) (q : Program) → read-list list ≡ done p → q ≡ P.program-of p
     → Known list (q .lines) (q .variables)
-unfolding program-of
+unfolding commands
 known list p q e f =
-    let same : program-of list ≡ p = list-read list p e .1 in
+    let same : commands list ≡ p = list-read list p e .1 in
     record {
       accepts = record { read = rw same e; counts = rw (same, f) };
       names = rw (same, f);

@@ -4,9 +4,9 @@ use Prim.Native.Nat.{ℕ}
 use lib.ListN.{replicate}
 use Rattle.theory.specs.Word.{Entry}
 use Rattle.translation.specs.Pieces.{Spelt}
-use Rattle.text.specs.Puts.{Put}
-use Rattle.text.proofs.Puts.{put-then}
-use Rattle.text.proofs.Entries.{bytes-append, entry-runs}
+use Rattle.output.specs.Puts.{Put}
+use Rattle.output.proofs.Puts.{put-then}
+use Rattle.theory.proofs.Entries.{bytes-append, entry-runs}
 
 -- An entry, by its two runs
 pub spelt-entry : {l n : List ℕ} {i k : ℕ} (e : Entry) → Put (replicate (e .operand) 49 ++ replicate (e .kind) 35) i l n k

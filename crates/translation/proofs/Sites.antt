@@ -18,10 +18,11 @@ use Rattle.theory.specs.Claims.{Accepted}
 use Rattle.theory.proofs.Nesting.{nest, reads-accepted, short, few-variables, well-nested, shallow}
 use Rattle.theory.proofs.Sizes.{code-length, code-weight}
 use Rattle.theory.proofs.Lists.{lists-round-trip}
+use Rattle.theory.specs.ProgramText.{commands}
 use Rattle.program.proofs.Lists.{list-length}
 use Rattle.translation.specs.Pieces.{numbers-at, Says}
 use Rattle.translation.specs.declared.lines.Line.{Line}
-use Rattle.translation.specs.Sites.{program-of, block-at, goes-on, first, rest, pairs-deep, symbols-of, Accepts, Known, Site}
+use Rattle.translation.specs.Sites.{block-at, goes-on, first, rest, pairs-deep, symbols-of, Accepts, Known, Site}
 
 -- An accepted list has three numbers a line
 
@@ -49,22 +50,22 @@ list-drop (suc n) (c ∷ p) =
     rw (three c .are, m) (list-drop n p)
 
 module _ (list : List ℕ) (count : ℕ) (a : Accepts list count) where
-  written : list-of (program-of list) ≡ list
-  written = lists-round-trip .1 list (program-of list) (a .read)
+  written : list-of (commands list) ≡ list
+  written = lists-round-trip .1 list (commands list) (a .read)
 
-  pub accepted : Accepted (program-of list)
-  accepted = reads-accepted .1 list (program-of list) (a .read)
+  pub accepted : Accepted (commands list)
+  accepted = reads-accepted .1 list (commands list) (a .read)
 
   pub numbers-count : length list ≡ 3 * count
-  numbers-count = ap length (sym written) ∙ (list-length (program-of list) ∙ ap (λ n. 3 * n) (sym (a .counts)))
+  numbers-count = ap length (sym written) ∙ (list-length (commands list) ∙ ap (λ n. 3 * n) (sym (a .counts)))
 
   -- The numbers at a line are those of the command that stands there
-  pub numbers-of-line : (at : ℕ) (c : Command) (p : List Command) → drop at (program-of list) ≡ c ∷ p → Says (numbers-at list at) c
+  pub numbers-of-line : (at : ℕ) (c : Command) (p : List Command) → drop at (commands list) ≡ c ∷ p → Says (numbers-at list at) c
   unfolding list-of
   numbers-of-line at c p e =
       let t : Three c = three c in
       let from : drop (3 * at) list ≡ t .kind ∷ t .index ∷ t .source ∷ list-of p =
-      ap (drop (3 * at)) (sym written) ∙ (list-drop at (program-of list) ∙ (ap list-of e ∙ ap (λ r. r ++ list-of p) (t .are))) in
+      ap (drop (3 * at)) (sym written) ∙ (list-drop at (commands list) ∙ (ap list-of e ∙ ap (λ r. r ++ list-of p) (t .are))) in
       let number : (i : ℕ) → getD list (3 * at + i) 0 ≡ getD (t .kind ∷ t .index ∷ t .source ∷ list-of p) i 0 =
       λ i. sym (getD-drop (3 * at) list i 0) ∙ ap (λ l. getD l i 0) from in
       let k : getD list (3 * at) 0 ≡ t .kind = rw add-zero at (number 0) in
@@ -84,7 +85,7 @@ blocks-begin (pair k i body b) q e =
     ∙ (blocks-begin body q′ refl
     ∙ ap {B = Blocks} (λ r. record { first = body; later = r .first ∷ r .later }) (blocks-begin b q e)))
 
-block-begins : (list : List ℕ) (at : ℕ) (b : Block) (q : List Command) → blocks q .first ≡ empty → drop at (program-of list) ≡ lines b ++ q
+block-begins : (list : List ℕ) (at : ℕ) (b : Block) (q : List Command) → blocks q .first ≡ empty → drop at (commands list) ≡ lines b ++ q
     → block-at list at ≡ b
 unfolding block-at
 block-begins list at b q e h = ap (λ l. blocks l .first) h ∙ ap (λ r. r .first) (blocks-begin b q e)
@@ -94,13 +95,13 @@ block-begins list at b q e h = ap (λ l. blocks l .first) h ∙ ap (λ r. r .fir
 record Standing (list : List ℕ) (at : ℕ) : Type 0 where
   command : Command
   after : List Command
-  here : drop at (program-of list) ≡ command ∷ after
+  here : drop at (commands list) ≡ command ∷ after
 
 standing : (list : List ℕ) (count at : ℕ) → Accepts list count → at < count → Standing list at
-standing list count at a h = go (drop at (program-of list)) refl
+standing list count at a h = go (drop at (commands list)) refl
   where
-    go : (l : List Command) → drop at (program-of list) ≡ l → Standing list at
-    go [] e = absurd (omega (arith, a .counts, length-drop at (program-of list), ap length e))
+    go : (l : List Command) → drop at (commands list) ≡ l → Standing list at
+    go [] e = absurd (omega (arith, a .counts, length-drop at (commands list), ap length e))
     go (c ∷ p) e = record { command = c; after = p; here = e }
 
 opened-goes-on : (k : Kind) (i : ℕ) (b : Block) (bs : List Block) → goes-on (opened-by k i b bs .first) ≡ true
@@ -152,7 +153,7 @@ module _ (list : List ℕ) (count at : ℕ) (a : Accepts list count) where
   pub begins-end : count ≤ at → false ≡ goes-on (block-at list at)
   unfolding block-at blocks
   begins-end h =
-      let none : drop at (program-of list) ≡ [] = drop-of-length-le (program-of list) {i = at} (omega (arith, a .counts)) in
+      let none : drop at (commands list) ≡ [] = drop-of-length-le (commands list) {i = at} (omega (arith, a .counts)) in
       sym (ap (λ l. goes-on (blocks l .first)) none)
 
 -- The rest of a block, and a pair's body
@@ -185,7 +186,7 @@ pub record Stands (list : List ℕ) (count K d at : ℕ) (b : Block) : Type 0 wh
 
 module _ (list : List ℕ) (count K : ℕ) where
   stands : (d at : ℕ) (b : Block) (later : List Command) → Known list count K → at ≤ count
-      → drop at (program-of list) ≡ lines b ++ later → blocks later .first ≡ empty → d + pairs-deep b ≤ Limits.most-open
+      → drop at (commands list) ≡ lines b ++ later → blocks later .first ≡ empty → d + pairs-deep b ≤ Limits.most-open
       → Stands list count K d at b
   stands d at b later k w h s r =
       let e : block-at list at ≡ b = block-begins list at b later s h in
@@ -200,15 +201,15 @@ module _ (list : List ℕ) (count K : ℕ) where
         arith,
         s .within,
         s .known .accepts .counts,
-        length-drop at (program-of list),
+        length-drop at (commands list),
         ap length (s .split),
         length-append (lines (block-at list at)) (s .later),
       )
 
-  pub whole-site : Known list count K → Stands list count K 0 0 (block-of (program-of list))
+  pub whole-site : Known list count K → Stands list count K 0 0 (block-of (commands list))
   unfolding blocks
   whole-site k =
-      let p : List Command = program-of list in
+      let p : List Command = commands list in
       let ok : Accepted p = accepted list count (k .accepts) in
       let e : p ≡ lines (block-of p) ++ [] = sym (append-nil (lines (block-of p)) ∙ well-nested p ok) in
       stands 0 0 (block-of p) [] k (omega arith) e refl (omega (arith, shallow p ok, deep-nest (block-of p)))
@@ -218,11 +219,11 @@ module _ (list : List ℕ) (count K : ℕ) where
   unfolding blocks
   body-site d at s k i body b e =
       let q : List Command = closes k i ∷ (lines b ++ s .later) in
-      let here : drop at (program-of list) ≡ opens k i ∷ (lines body ++ q) =
+      let here : drop at (commands list) ≡ opens k i ∷ (lines body ++ q) =
       s .split ∙ (ap (λ x. lines x ++ s .later) e ∙ ap {B = List Command} (λ l. opens k i ∷ l) (append-assoc (lines body) _ _)) in
       let below : at + 1 ≤ count = omega (arith, ends d at s, ap (λ x. length (lines x)) e) in
       let room : d + pairs-deep (pair k i body b) ≤ Limits.most-open = rw e at (s .room) in
-      stands (deeper k d) (at + 1) body q (s .known) below (sym (drop-drop 1 at (program-of list)) ∙ ap (drop 1) here) refl
+      stands (deeper k d) (at + 1) body q (s .known) below (sym (drop-drop 1 at (commands list)) ∙ ap (drop 1) here) refl
       (deep-body k d i body b room)
 
   pub rest-site : (d at n : ℕ) → Site list count K d at → n ≡ at + length (lines (first (block-at list at)))
@@ -230,10 +231,10 @@ module _ (list : List ℕ) (count K : ℕ) where
   rest-site d at n s e =
       let b : Block = block-at list at in
       let f : List Command = lines (first b) in
-      let here : drop at (program-of list) ≡ f ++ (lines (rest b) ++ s .later) =
+      let here : drop at (commands list) ≡ f ++ (lines (rest b) ++ s .later) =
       s .split ∙ (ap (λ l. l ++ s .later) (lines-first b) ∙ append-assoc f _ _) in
-      let there : drop (at + length f) (program-of list) ≡ lines (rest b) ++ s .later =
-      sym (drop-drop (length f) at (program-of list)) ∙ (ap (drop (length f)) here ∙ drop-append-seam f _) in
+      let there : drop (at + length f) (commands list) ≡ lines (rest b) ++ s .later =
+      sym (drop-drop (length f) at (commands list)) ∙ (ap (drop (length f)) here ∙ drop-append-seam f _) in
       let l : length (lines b) ≡ length f + length (lines (rest b)) = ap length (lines-first b) ∙ length-append f _ in
       rw e (stands d (at + length f) (rest b) (s .later) (s .known) (omega (arith, ends d at s)) there (s .stops)
       (omega (arith, s .room, deep-rest b)))
@@ -264,7 +265,7 @@ pub record Bounds (list : List ℕ) (count K d at : ℕ) : Type 0 where
 
 pub bounds : (list : List ℕ) (count K d at : ℕ) → Site list count K d at → Bounds list count K d at
 bounds list count K d at s =
-    let p : List Command = program-of list in
+    let p : List Command = commands list in
     let b : Block = block-at list at in
     let ok : Accepted p = accepted list count (s .known .accepts) in
     let few : count ≤ Limits.most-lines = omega (arith, s .known .accepts .counts, short p ok) in

@@ -12,7 +12,7 @@ use Rattle.theory.specs.Source.{deeper}
 use Rattle.theory.specs.Word.{Instruction, entry-of, table-of, spell-entries}
 use Rattle.theory.specs.Translation.{plain-code, code}
 use Rattle.translation.specs.Pieces.{plain-of, kind-of, Small, text}
-use Rattle.text.specs.Puts.{most, Put}
+use Rattle.output.specs.Puts.{most, Put}
 use Rattle.translation.specs.Sites.{block-at, goes-on, first, Site, Counts, before, after, Wrote, Writes}
 use Rattle.translation.specs.declared.lines.Line.{Line}
 use Rattle.translation.specs.declared.sizes.Extent.{Extent}
@@ -20,8 +20,8 @@ use Rattle.translation.specs.declared.writing.Spot.{Spot}
 use Rattle.translation.proofs.Sites.{bounds}
 use Rattle.translation.proofs.Walks.{Passed, passed-none, passed-more, passed-all, here, PlainHere, PairHere}
 use Rattle.translation.proofs.Counting.{pair-code, pair-asks}
-use Rattle.text.proofs.Puts.{put-nothing, put-then}
-use Rattle.text.proofs.Entries.{bytes-append}
+use Rattle.output.proofs.Puts.{put-nothing, put-then}
+use Rattle.theory.proofs.Entries.{bytes-append}
 
 -- The text of some instructions, and of more
 pub words-append : (u w : List Instruction) → text (table-of (u ++ w)) ≡ text (table-of u) ++ text (table-of w)

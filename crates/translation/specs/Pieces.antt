@@ -10,7 +10,7 @@ use Rattle.theory.specs.ProgramText.{Plain, clear, increment, copy, Kind, loop,
 use Rattle.theory.specs.Text.{Bytes}
 use Rattle.theory.specs.Word.{Instruction, append, forward, cases, one, Entry, table-of, spell-entries, bytes-of}
 use Rattle.theory.specs.Translation.{sharing, returning, before-body, after-body}
-use Rattle.text.specs.Puts.{Put}
+use Rattle.output.specs.Puts.{Put}
 use Rattle.translation.specs.declared.lines.Line.{Line}
 
 -- The three numbers of line n of a list, from 0

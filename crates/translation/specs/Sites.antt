@@ -3,25 +3,21 @@ use mathlib.Core.Path.{_≡_}
 use mathlib.Core.Bool.{Bool, true, false}
 use mathlib.Core.List.{List, _++_}
 use Prim.Native.Nat.{ℕ, suc, _+_, _≤_, _<_, max}
-use lib.ListN.{length, drop}
+use lib.ListN.{length, drop, getD}
 use Rattle.theory.specs.Limits
-use Rattle.theory.specs.Basics.{present}
-use Rattle.theory.specs.ProgramText.{Command, variables, listed, Block, empty, single, pair, lines, blocks}
+use Rattle.theory.specs.ProgramText.{Command, variables, Block, empty, single, pair, lines, blocks, commands}
 use Rattle.theory.specs.Word.{Instruction, table-of}
 use Rattle.theory.specs.Translation.{code}
 use Rattle.theory.specs.TurnedDown.{done, read-list, total}
-use Rattle.text.specs.Puts.{Put}
-use Rattle.translation.specs.Pieces.{front, back, text}
+use Rattle.output.specs.Puts.{Put}
+use Rattle.translation.specs.Pieces.{numbers-at, front, back, text}
 use Rattle.translation.specs.declared.lines.Line.{Line}
 use Rattle.translation.specs.declared.sizes.Extent.{Extent}
 use Rattle.translation.specs.declared.writing.Spot.{Spot}
 
--- The program of a list, and the block that begins at its line n, from 0
-unfoldable pub program-of : List ℕ → List Command
-program-of list = present (listed list)
-
+-- The block that begins at line n of a list's program, from 0
 unfoldable pub block-at : List ℕ → ℕ → Block
-block-at list n = blocks (drop n (program-of list)) .first
+block-at list n = blocks (drop n (commands list)) .first
 
 -- Whether a block has a first line or pair; that alone; and what follows it
 abbrev pub goes-on : Block → Bool
@@ -51,20 +47,20 @@ symbols-of w = total (table-of w)
 
 -- An accepted list of so many lines
 pub record Accepts (list : List ℕ) (count : ℕ) : Type 0 where
-  pub read : read-list list ≡ done (program-of list)
-  pub counts : count ≡ length (program-of list)
+  pub read : read-list list ≡ done (commands list)
+  pub counts : count ≡ length (commands list)
 
 -- And of so many variables
 pub record Known (list : List ℕ) (count K : ℕ) : Type 0 where
   pub accepts : Accepts list count
-  pub names : K ≡ variables (program-of list)
+  pub names : K ≡ variables (commands list)
 
 -- A block of such a list begins at line `at`, inside d loops, in a program of K variables. After it the list ends or a pair closes
 pub record Site (list : List ℕ) (count K d at : ℕ) : Type 0 where
   pub known : Known list count K
   pub within : at ≤ count
   pub later : List Command
-  pub split : drop at (program-of list) ≡ lines (block-at list at) ++ later
+  pub split : drop at (commands list) ≡ lines (block-at list at) ++ later
   pub stops : blocks later .first ≡ empty
   pub room : d + pairs-deep (block-at list at) ≤ Limits.most-open
 
@@ -101,6 +97,22 @@ module _ (K d : ℕ) (l : Line) (body : Extent) where
     pub instructions : e .instructions ≡ length before + body .instructions + length after
     pub symbols : e .symbols ≡ symbols-of before + body .symbols + symbols-of after
     pub ended : e .next ≡ body .next + 1
+
+-- The instructions of the body of the pair that opens at line n are noted in `bodies`, if a pair does
+abbrev pub Note : List ℕ → ℕ → List ℕ → ℕ → Type 0
+Note list K bodies n =
+    goes-on (block-at list n) ≡ true → 3 < (numbers-at list n) .kind → (d : ℕ) → getD bodies n 0 ≡ length (code K d (block-at list (n + 1)))
+
+-- So they are at every one of so many lines
+pub record Noted (list : List ℕ) (K count : ℕ) (bodies : List ℕ) : Type 0 where
+  pub room : count ≤ length bodies
+  pub notes : (n : ℕ) → n < count → Note list K bodies n
+
+-- They were noted from one line to another, in `before`, which is then `after`; those before them are as they were
+pub record Noting (list : List ℕ) (K from to : ℕ) (before after : List ℕ) : Type 0 where
+  pub sized : length after ≡ length before
+  pub kept : (n : ℕ) → n < from → getD after n 0 ≡ getD before n 0
+  pub notes : (n : ℕ) → from ≤ n → n < to → Note list K after n
 
 -- Some instructions were written, up to a line
 pub record Wrote (w : List Instruction) (next place : ℕ) (before after : List ℕ) (s : Spot) : Type 0 where

@@ -1,5 +1,6 @@
 // Translation of a program into its 1# word (document 01, "Translation"). The sizes come first, by a walk over the program; then each
 // symbol of the word is written once, straight into the caller's output.
+mod bodies;
 mod lines;
 mod pieces;
 mod sizes;
@@ -12,8 +13,9 @@ ghost use Prim.Native.Nat.{_≤_};
 ghost use lib.ListN.{length};
 ghost use Rattle.theory.specs.Translation.{word-text};
 ghost use Rattle.theory.specs.TurnedDown.{done, read-list, read-text, lent-after, translate-into};
+ghost use Rattle.theory.specs.ProgramText.{commands};
 ghost use Rattle.translation.specs.Answers.{size-of, translated, output, Answered};
-ghost use Rattle.translation.specs.Sites.{program-of, Known};
+ghost use Rattle.translation.specs.Sites.{Known, Noted};
 
 // The size of a word: its symbols and its instructions.
 pub struct Size {
@@ -27,12 +29,12 @@ pub enum Translated {
     Refused(Refusal),
 }
 
-// The size of the word of an accepted list: F1, and the program's block.
-fn word_size(list: &[u8], lines: usize, variables: usize) -> Size
-    requires { ⌜ Known (now list) lines variables ⌝ }
-    ensures { λ r. ⌜ r ≡ size-of (program-of (now (list .entry))) ⌝ }
+// The size of the word of an accepted list: F1, and the program's block. The instructions of every body are noted.
+fn word_size(list: &[u8], lines: usize, variables: usize, bodies: &mut [u16]) -> Size
+    requires { ⌜ Known (now list) lines variables × (lines ≤ length (now bodies)) ⌝ }
+    ensures { λ r. ⌜ (r ≡ size-of (commands (now (list .entry)))) × Noted (now (list .entry)) variables lines (now (bodies .exit)) ⌝ }
 {
-    let block = sizes::block_size(list, lines, variables, 0, 0);
+    let block = sizes::block_size(list, lines, variables, 0, 0, &mut *bodies);
     Size {
         symbols: 4 + block.symbols,
         instructions: 1 + block.instructions,
@@ -40,12 +42,13 @@ fn word_size(list: &[u8], lines: usize, variables: usize) -> Size
 }
 
 // The word of an accepted list, at the start of an output that has room for it.
-fn put_word(list: &[u8], lines: usize, variables: usize, out: &mut [u8])
-    requires { ⌜ Known (now list) lines variables × (length (word-text (program-of (now list))) ≤ length (now out)) ⌝ }
-    ensures { λ _. ⌜ now (out .exit) ≡ lent-after (now (out .entry)) (done (word-text (program-of (now (list .entry))))) ⌝ }
+fn put_word(list: &[u8], lines: usize, variables: usize, bodies: &[u16], out: &mut [u8])
+    requires { ⌜ Known (now list) lines variables × Noted (now list) variables lines (now bodies)
+        × (length (word-text (commands (now list))) ≤ length (now out)) ⌝ }
+    ensures { λ _. ⌜ now (out .exit) ≡ lent-after (now (out .entry)) (done (word-text (commands (now (list .entry))))) ⌝ }
 {
     let place = pieces::put_instruction(&mut *out, 0, 1, 3);
-    writing::put_block(list, lines, variables, 0, 0, &mut *out, place);
+    writing::put_block(list, lines, variables, 0, 0, bodies, &mut *out, place);
 }
 
 // Rule 19, and the word.
@@ -53,14 +56,15 @@ fn translate_accepted(list: &[u8], lines: usize, variables: usize, out: &mut [u8
     requires { ⌜ Known (now list) lines variables ⌝ }
     ensures { λ r. ⌜ Answered (read-list (now (list .entry))) (now (out .entry)) (now (out .exit)) r ⌝ }
 {
-    let size = word_size(list, lines, variables);
+    let mut bodies = [0u16; program::Program::LINES];
+    let size = word_size(list, lines, variables, &mut bodies);
     if out.len() < size.symbols {
         return Translated::Refused(Refusal {
             number: 19,
             place: 0,
         });
     }
-    put_word(list, lines, variables, &mut *out);
+    put_word(list, lines, variables, &bodies, &mut *out);
     Translated::Done(size)
 }
 

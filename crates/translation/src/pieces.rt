@@ -5,7 +5,7 @@ ghost use Rattle.theory.specs.Limits as Limits;
 ghost use Rattle.theory.specs.Translation as T;
 ghost use Rattle.translation.specs.Pieces.{plain-of, Small, looping, testing, front, back, Spelt, Written};
 use crate::lines::Line;
-use text::put;
+use output::put_runs;
 
 // The number of # of an instruction, by its kind.
 const APPEND: usize = 1;
@@ -20,7 +20,7 @@ const CASES: usize = 5;
 pub fn put_instruction(out: &mut [u8], place: usize, operand: usize, kind: usize) -> usize
     ensures { λ r. ⌜ Spelt (record { kind = kind; operand = operand } ∷ []) place (now (out .entry)) (now (out .exit)) r ⌝ }
 {
-    put::put_runs(out, place, operand, b'1', kind, b'#')
+    put_runs(out, place, operand, b'1', kind, b'#')
 }
 
 // C a, F2, B2

@@ -1,12 +1,14 @@
-// Sizes of a block and of a line or pair, by two functions that call each other. A block goes through its lines and pairs in a loop, so
-// that calls are nested no deeper than pairs.
+// Sizes of a block and of a line or pair, by two functions that call each other, which note the instructions of every body. A block goes
+// through its lines and pairs in a loop, so that calls are nested no deeper than pairs.
 ghost use mathlib.Core.Path.{_≡_};
-ghost use mathlib.Core.Bool.{true};
+ghost use mathlib.Core.Bool.{true, false};
 ghost use Prim.Native.Nat.{_+_, _≤_, _<_};
+ghost use lib.ListN.{length};
 ghost use Rattle.theory.specs.Limits as Limits;
 ghost use Rattle.theory.specs.Translation.{plain-code};
 ghost use Rattle.translation.specs.Pieces.{plain-of, Small};
-ghost use Rattle.translation.specs.Sites.{Site, block-at, goes-on, first, Counted, Counts, Roomy, Around, join};
+ghost use Rattle.translation.specs.Sites.{Site, block-at, goes-on, first, Counted, Counts, Roomy, Around, join, Noting};
+use crate::bodies;
 use crate::lines;
 
 // So many instructions and symbols, and the line after what was counted, from 0.
@@ -79,9 +81,18 @@ fn joined(a: Extent, b: Extent) -> Extent
 }
 
 // The block that begins at line `at`, inside `depth` loops.
-pub fn block_size(list: &[u8], lines: usize, variables: usize, depth: usize, at: usize) -> Extent
-    requires { ⌜ Site (now list) lines variables depth at ⌝ }
-    ensures { λ r. ⌜ Counts variables depth at (block-at (now (list .entry)) at) r ⌝ }
+pub fn block_size(
+    list: &[u8],
+    lines: usize,
+    variables: usize,
+    depth: usize,
+    at: usize,
+    bodies: &mut [u16],
+) -> Extent
+    requires { ⌜ Site (now list) lines variables depth at × (lines ≤ length (now bodies)) ⌝ }
+    ensures { λ r. ⌜ Counts variables depth at (block-at (now (list .entry)) at) r
+        × Noting (now (list .entry)) variables at (r .next) (now (bodies .entry)) (now (bodies .exit))
+        × (goes-on (block-at (now (list .entry)) (r .next)) ≡ false) ⌝ }
 {
     let mut sum = Extent {
         instructions: 0,
@@ -89,22 +100,33 @@ pub fn block_size(list: &[u8], lines: usize, variables: usize, depth: usize, at:
         next: at,
     };
     while lines::begins(list, lines, sum.next) {
-        sum = joined(sum, pair_size(list, lines, variables, depth, sum.next));
+        let item = pair_size(list, lines, variables, depth, sum.next, &mut *bodies);
+        sum = joined(sum, item);
     }
     sum
 }
 
 // Its first line or pair.
-fn pair_size(list: &[u8], lines: usize, variables: usize, depth: usize, at: usize) -> Extent
-    requires { ⌜ Site (now list) lines variables depth at × (goes-on (block-at (now list) at) ≡ true) ⌝ }
-    ensures { λ r. ⌜ Counts variables depth at (first (block-at (now (list .entry)) at)) r ⌝ }
+fn pair_size(
+    list: &[u8],
+    lines: usize,
+    variables: usize,
+    depth: usize,
+    at: usize,
+    bodies: &mut [u16],
+) -> Extent
+    requires { ⌜ Site (now list) lines variables depth at × (goes-on (block-at (now list) at) ≡ true)
+        × (lines ≤ length (now bodies)) ⌝ }
+    ensures { λ r. ⌜ Counts variables depth at (first (block-at (now (list .entry)) at)) r
+        × Noting (now (list .entry)) variables at (r .next) (now (bodies .entry)) (now (bodies .exit)) ⌝ }
 {
     let line = lines::line_at(list, at);
-    if line.kind <= 3 {
+    if line.kind <= command::COPY {
         line_size(line, variables, at)
     } else {
         let inner = lines::deeper(line.kind, depth);
-        let body = block_size(list, lines, variables, inner, at + 1);
+        let body = block_size(list, lines, variables, inner, at + 1, &mut *bodies);
+        bodies::note(&mut *bodies, at, body.instructions);
         around(line, variables, depth, body)
     }
 }

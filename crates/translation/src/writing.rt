@@ -1,14 +1,14 @@
-// The word, written by two functions that call each other, as the sizes are counted.
+// The word, written by two functions that call each other, as the sizes are counted. The instructions of every body were noted before.
 ghost use mathlib.Core.Path.{_≡_};
 ghost use mathlib.Core.Bool.{true};
 ghost use Prim.Native.Nat.{_+_, _≤_, _<_};
 ghost use Rattle.theory.specs.Limits as Limits;
 ghost use Rattle.theory.specs.Translation.{plain-code};
 ghost use Rattle.translation.specs.Pieces.{plain-of, Small, back};
-ghost use Rattle.translation.specs.Sites.{Site, block-at, goes-on, first, Wrote, Writes};
+ghost use Rattle.translation.specs.Sites.{Site, block-at, goes-on, first, Noted, Wrote, Writes};
+use crate::bodies;
 use crate::lines;
 use crate::pieces;
-use crate::sizes;
 
 // The line after what was written, and the place in the output after it.
 pub struct Spot {
@@ -47,16 +47,17 @@ pub fn put_block(
     variables: usize,
     depth: usize,
     at: usize,
+    bodies: &[u16],
     out: &mut [u8],
     place: usize,
 ) -> Spot
-    requires { ⌜ Site (now list) lines variables depth at ⌝ }
+    requires { ⌜ Site (now list) lines variables depth at × Noted (now list) variables lines (now bodies) ⌝ }
     ensures { λ r. ⌜ Writes variables depth at (block-at (now (list .entry)) at) place (now (out .entry)) (now (out .exit)) r ⌝ }
 {
     let mut next = at;
     let mut here = place;
     while lines::begins(list, lines, next) {
-        let item = put_pair(list, lines, variables, depth, next, &mut *out, here);
+        let item = put_pair(list, lines, variables, depth, next, bodies, &mut *out, here);
         next = item.next;
         here = item.place;
     }
@@ -70,22 +71,32 @@ fn put_pair(
     variables: usize,
     depth: usize,
     at: usize,
+    bodies: &[u16],
     out: &mut [u8],
     place: usize,
 ) -> Spot
-    requires { ⌜ Site (now list) lines variables depth at × (goes-on (block-at (now list) at) ≡ true) ⌝ }
+    requires { ⌜ Site (now list) lines variables depth at × (goes-on (block-at (now list) at) ≡ true)
+        × Noted (now list) variables lines (now bodies) ⌝ }
     ensures { λ r. ⌜ Writes variables depth at (first (block-at (now (list .entry)) at)) place (now (out .entry)) (now (out .exit)) r ⌝ }
 {
     let line = lines::line_at(list, at);
-    if line.kind <= 3 {
+    if line.kind <= command::COPY {
         put_line(line, variables, at, &mut *out, place)
     } else {
         let inner = lines::deeper(line.kind, depth);
         let first = at + 1;
-        let size = sizes::block_size(list, lines, variables, inner, first);
-        let m = size.instructions;
+        let m = bodies::noted(bodies, at);
         let start = pieces::before_body(&mut *out, place, line, variables, depth, m);
-        let body = put_block(list, lines, variables, inner, first, &mut *out, start);
+        let body = put_block(
+            list,
+            lines,
+            variables,
+            inner,
+            first,
+            bodies,
+            &mut *out,
+            start,
+        );
         put_after(line.kind, m, &mut *out, body)
     }
 }

@@ -4,7 +4,7 @@ use mathlib.Core.Logic.{_⊎_, inl, inr, ⊎-elim}
 use mathlib.Core.Bool.{Bool, true, false}
 use mathlib.Core.Option.{Option, none, some}
 use mathlib.Core.List.{List, [], _∷_, _++_}
-use Prim.Native.Nat.{ℕ, zero, suc, _+_, _≤_, _<_, zero-le}
+use Prim.Native.Nat.{ℕ, zero, suc, _+_, _≤_, _<_, min, zero-le}
 use native.Mathlib.Numerals.{add-one}
 use native.Mathlib.Omega.{arith}
 use lib.ListN.{length, take, drop, getD, length-drop, drop-of-length-le}
@@ -16,8 +16,8 @@ use Rattle.theory.specs.Word.{Entry, entries}
 use Rattle.theory.specs.TurnedDown.{word-entries, entry-fault, entry-size, first-along, total, rule-13, rule-14, next-byte}
 use Rattle.theory.proofs.Words.{entry, total-append}
 use Rattle.word.specs.declared.answers.Read.the-variants.{Done, Refused}
-use Rattle.word.specs.Scan.{kind-number, item, item-at, ones-at, hashes-at, fault-place, scan-answer}
-use Rattle.word.proofs.Items.{Known, entries-at, next-within}
+use Rattle.word.specs.Scan.{kind-number, widest, item, item-at, ones-at, hashes-at, fault-place, scan-answer}
+use Rattle.word.proofs.Items.{Known, entries-at, ones-within, next-within}
 
 -- The entries before the place `at` are `count`, and have no fault of rule 13
 pub record Along (w : List ℕ) (at count : ℕ) : Type 0 where
@@ -60,17 +60,20 @@ module _ (at n k : ℕ) where
       let b : (1 ≤ k) × (k ≤ 5) = kind-in k g in
       rw (ne-eqb n 0 h, le-ltb 5 k (b .1), ne-eqb k 0 (λ e. omega arith))
 
-  fault-some : (n ≡ 0) ⊎ (kind-number k ≡ 0) → entry-fault at (entry n k) ≡ some (fault-place at (item at n k))
+  fault-some : n ≤ widest → (n ≡ 0) ⊎ (kind-number k ≡ 0) → entry-fault at (entry n k) ≡ some (fault-place at (item at n k))
   unfolding fault-place
-  fault-some h = go (eqb n 0) refl h
+  fault-some small h = go (eqb n 0) refl h
     where
+      kept : min n widest ≡ n
+      kept = omega (arith, small)
+
       go : (t : Bool) → eqb n 0 ≡ t → (n ≡ 0) ⊎ (kind-number k ≡ 0) → entry-fault at (entry n k) ≡ some (fault-place at (item at n k))
-      go true e h = rw e
+      go true e h = rw (kept, e)
       go false e (inl z) = absurd (eqb-false n 0 e z)
       go false e (inr z) =
           ⊎-elim
-          (λ q. rw (e, eq-eqb (at + n + k) (at + n) (omega arith), eq-eqb k 0 q, le-ltb 5 k (omega arith)))
-          (λ q. rw (e, ne-eqb (at + n + k) (at + n) (λ x. omega arith), lt-ltb 5 k q))
+          (λ q. rw (kept, e, eq-eqb (at + n + k) (at + n) (omega arith), eq-eqb k 0 q, le-ltb 5 k (omega arith)))
+          (λ q. rw (kept, e, ne-eqb (at + n + k) (at + n) (λ x. omega arith), lt-ltb 5 k q))
           (kind-of-none k z)
 
 -- One entry further
@@ -139,16 +142,17 @@ module _ (w : List ℕ) (known : Known w) (at count : ℕ) (a : Along w at count
 module _ (w : List ℕ) (known : Known w) (at count : ℕ) (a : Along w at count) (h : at < length w) where
   pub item-next : (item-at w at .operand ≡ 0 → ⊥) → (item-at w at .kind ≡ 0 → ⊥) → Along w (item-at w at .next) (count + 1)
   unfolding item-at
-  item-next g f = along-next w known at count a h (fault-none at (ones-at w at) (hashes-at w at) g f)
+  item-next g f = along-next w known at count a h (fault-none at (ones-at w at) (hashes-at w at) (λ z. g (omega (arith, z))) f)
 
-  pub item-fault : (item-at w at .operand ≡ 0) ⊎ (item-at w at .kind ≡ 0)
+  pub item-fault : length w ≤ Limits.most-symbols → (item-at w at .operand ≡ 0) ⊎ (item-at w at .kind ≡ 0)
       → Refused (record { number = 13; place = fault-place at (item-at w at) }) ≡ scan-answer w
   unfolding item-at scan-answer rule-13
-  item-fault g =
+  item-fault short g =
       let n : ℕ = ones-at w at in
       let k : ℕ = hashes-at w at in
       let place : ℕ = fault-place at (item at n k) in
-      rw (fault-here w known at count a h place (fault-some at n k g))
+      let small : n ≤ widest = omega (arith, ones-within w at (a .reached), short) in
+      rw (fault-here w known at count a h place (fault-some at n k small (⊎-elim (λ z. inl (omega (arith, z))) inr g)))
 
 -- At the word's end every entry is passed
 pub along-end : (w : List ℕ) (at count : ℕ) → Along w at count → length w ≤ at

@@ -22,6 +22,7 @@ use Rattle.theory.proofs.Words.{entry, Formed, formed-of-word}
 use Rattle.word.specs.Scan.{Readable, symbols, item-at, ones-at, hashes-at}
 use Rattle.text.proofs.Runs.{leading-length}
 use Rattle.word.proofs.Runs.{failing-some}
+use Rattle.word.proofs.Items.{ones-within}
 use Rattle.word.proofs.Along.{Along, along-end, entry-here, item-next, kind-of-some}
 
 pub lt-or-le : (a b : ℕ) → (a < b) ⊎ (b ≤ a)
@@ -112,7 +113,7 @@ module _ (w : List ℕ) (fine : word-fault w ≡ none) where
 
     pub item-operand : item-at w at .operand ≡ here .operand
     unfolding item-at
-    item-operand = rw is-here
+    item-operand = rw is-here (omega (arith, ones-within w at (a .reached), readable .short))
 
     pub item-along : Along w (item-at w at .next) (count + 1)
     item-along =

@@ -44,14 +44,14 @@ first-entry hash (hash ∷ s) = ap {B = List Entry} hash-before (first-entry has
 abbrev pub Known : List ℕ → Type 0
 Known w = symbols w ≡ length w
 
-known-head : (b : ℕ) (w : List ℕ) → Known (b ∷ w) → is-symbol b ≡ true
+pub known-head : (b : ℕ) (w : List ℕ) → Known (b ∷ w) → is-symbol b ≡ true
 known-head b w h = go (is-symbol b) refl
   where
     go : (t : Bool) → is-symbol b ≡ t → is-symbol b ≡ true
     go true e = e
     go false e = absurd (omega (arith, leading-fail is-symbol b w e))
 
-known-tail : (b : ℕ) (w : List ℕ) → Known (b ∷ w) → Known w
+pub known-tail : (b : ℕ) (w : List ℕ) → Known (b ∷ w) → Known w
 known-tail b w h = omega (arith, leading-pass is-symbol b w (known-head b w h))
 
 pub known-drop : (i : ℕ) (w : List ℕ) → Known w → Known (drop i w)

@@ -3,10 +3,6 @@ pub mod Items
 pub mod Along
 pub mod Judged
 pub mod Fills
-pub mod Counts
-pub mod Passing
-pub mod Spelling
-pub mod Stores
-pub mod Tallies
-pub mod Copies
-pub mod Gathers
+pub mod Flags
+pub mod Plain
+pub mod Zipped

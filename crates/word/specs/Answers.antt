@@ -1,14 +1,11 @@
--- What this crate's entries hand back, by the definitions of crate theory: tables, as two lists of numbers or as a list of records, and
--- answers.
+-- What entries on words and tables hand back, by the definitions of crate theory: tables, as two lists of numbers or as a list of records,
+-- and answers.
 use mathlib.Core.Path.{_≡_}
 use mathlib.Core.List.{List, [], _∷_, map}
 use Prim.Native.Nat.{ℕ}
-use lib.ListN.{length, replicate}
-use Rattle.theory.specs.TurnedDown.{read-word-into, write-word-into}
-use Rattle.theory.specs.Limits
+use lib.ListN.{length}
 use Rattle.theory.specs.Word.{Entry}
-use Rattle.theory.specs.TurnedDown.{Answer, done, refused, answer, mapped, read-word, read-table, lend, lent-after}
-use Rattle.word.specs.declared.answers.Gathered.{Gathered}
+use Rattle.theory.specs.TurnedDown.{Answer, done, refused, mapped, lent-after, read-word-into, write-word-into}
 use Rattle.word.specs.declared.answers.Instruction.{Instruction}
 use Rattle.word.specs.declared.answers.Read.{Read}
 use Rattle.word.specs.declared.answers.Read.the-variants as R
@@ -61,22 +58,6 @@ Reads word kinds operands r kinds′ operands′ =
     × (kinds′ ≡ lent-after kinds (mapped kinds-of (read-word-into kinds operands word)))
     × (operands′ ≡ lent-after operands (mapped operands-of (read-word-into kinds operands word)))
 
--- A word read into a lent table of records: rules 11 to 14, then 19
-abbrev pub ReadsTable : (word : List ℕ) (table : List Instruction) → Read → (table′ : List Instruction) → Type 0
-ReadsTable word table r table′ =
-    (r ≡ read-answer (lend table (read-word word))) × (table′ ≡ lent-after table (mapped records-of (lend table (read-word word))))
-
 -- A table written as a word into a lent list of bytes: rules 11, 13 and 14 as for tables, then 19
 abbrev pub WritesInto : (table : List Entry) (word : List ℕ) → Written → (word′ : List ℕ) → Type 0
 WritesInto table word r word′ = (r ≡ written-answer (write-word-into word table)) × (word′ ≡ lent-after word (write-word-into word table))
-
--- A table as numbers, with room for as many instructions as a word may have: rules 11, 13 and 14 as for tables
-abbrev pub no-numbers : List ℕ
-no-numbers = replicate Limits.most-instructions 0
-
-unfoldable pub gathered : List Entry → Gathered
-gathered t = record {
-  kinds = lent-after no-numbers (mapped kinds-of (read-table t));
-  operands = lent-after no-numbers (mapped operands-of (read-table t));
-  answer = read-answer (read-table t);
-}

@@ -3,7 +3,7 @@ use mathlib.Core.Path.{_≡_}
 use mathlib.Core.Bool.{cond}
 use mathlib.Core.Option.{none}
 use mathlib.Core.List.{List}
-use Prim.Native.Nat.{ℕ, _+_, _≤_}
+use Prim.Native.Nat.{ℕ, _+_, _≤_, min}
 use lib.ListN.{length, drop}
 use lib.Dec.{eqb}
 use Rattle.theory.specs.Limits
@@ -11,7 +11,7 @@ use Rattle.theory.specs.Word.{is-symbol}
 use Rattle.theory.specs.Machines.{is-limited}
 use Rattle.theory.specs.TurnedDown.{done, answer, word-entries, entries-fault, word-fault, lent-after}
 use Rattle.text.specs.Runs.{leading, run}
-use Rattle.word.specs.declared.reading.Item.{Item}
+use Rattle.word.specs.declared.answers.Item.{Item}
 use Rattle.word.specs.declared.answers.Read.{Read}
 use Rattle.word.specs.Answers.{kinds-of, operands-of, read-answer}
 
@@ -22,9 +22,13 @@ symbols = leading is-symbol
 unfoldable pub kind-number : ℕ → ℕ
 kind-number k = cond (is-limited 5 k) k 0
 
+-- The largest number of 32 bits
+abbrev pub widest : ℕ
+widest = 4294967295
+
 -- The item of n ones and then k # that starts at a place
 abbrev pub item : ℕ → ℕ → ℕ → Item
-item at n k = record { kind = kind-number k; operand = n; next = at + n + k }
+item at n k = record { kind = kind-number k; operand = min n widest; next = at + n + k }
 
 -- How many ones stand from a place on, and how many # behind them
 abbrev pub ones-at : List ℕ → ℕ → ℕ

@@ -28,12 +28,12 @@ pub enum Written {
     Refused(Refusal),
 }
 
-// A table of records as numbers: its kinds and operands with 0s after them, and the number of its instructions; 0s alone, and why, where
-// it is turned down.
-pub struct Gathered {
-    pub kinds: [u8; Instruction::INSTRUCTIONS],
-    pub operands: [u32; Instruction::INSTRUCTIONS],
-    pub answer: Read,
+// An instruction of a word, and where the next one starts. Kind 0 stands for a number of # that is none of 1 to 5, and an operand of more
+// than 32 bits for the largest number of 32 bits.
+pub struct Item {
+    pub kind: u8,
+    pub operand: u32,
+    pub next: usize,
 }
 
 // The refusal of a rule at a place.

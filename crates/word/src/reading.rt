@@ -1,21 +1,19 @@
 // Reading a word: rules 11 to 14 in order, with byte offsets as places, and then 19. Nothing is written before the count is known.
 ghost use mathlib.Core.Path.{_≡_};
-ghost use Prim.Native.Nat.{_+_, _≤_};
-ghost use lib.ListN.{length};
+ghost use Prim.Native.Nat.{_+_, _≤_, min};
 ghost use Rattle.theory.specs.TurnedDown.{read-word};
 ghost use Rattle.word.specs.Answers.{read-answer, Reads};
-ghost use Rattle.word.specs.Scan.{symbols, kind-number, item-at, fault-place, Readable, scan-answer, Fillable, Filled};
+ghost use Rattle.word.specs.Scan.{symbols, kind-number, widest, item-at, fault-place};
+ghost use Rattle.word.specs.Scan.{Readable, scan-answer, Fillable, Filled};
 use crate::answers::Instruction;
+use crate::answers::Item;
 use crate::answers::Read;
 use crate::answers::refused;
-use text::read::run_end;
+use crate::passing::plain_count;
+use text::run_end;
 
-// An instruction of a word, and where the next one starts. Kind 0 stands for a number of # that is none of 1 to 5.
-pub struct Item {
-    pub kind: u8,
-    pub operand: u32,
-    pub next: usize,
-}
+// The largest number of 32 bits.
+const WIDEST: usize = 4294967295;
 
 // The place of the first byte that is neither 1 nor #, or the length.
 fn symbols_end(word: &[u8]) -> usize
@@ -36,26 +34,31 @@ fn symbols_end(word: &[u8]) -> usize
 fn kind_of(hashes: usize) -> u8
     ensures { λ r. ⌜ r ≡ kind-number hashes ⌝ }
 {
-    match hashes {
-        1 => 1,
-        2 => 2,
-        3 => 3,
-        4 => 4,
-        5 => 5,
-        _ => 0,
+    if hashes <= Instruction::KINDS as usize {
+        return hashes as u8;
     }
+    0
 }
 
-// The item that starts at `at`.
+// The operand that a number of 1s makes.
+fn operand_of(ones: usize) -> u32
+    ensures { λ r. ⌜ r ≡ min ones widest ⌝ }
+{
+    if ones <= WIDEST {
+        return ones as u32;
+    }
+    4294967295
+}
+
+// The item that starts at `at`; one without symbols where the word ends before it.
 pub fn item_at(word: &[u8], at: usize) -> Item
-    requires { ⌜ (at ≤ length (now word)) × (length (now word) ≤ 600000) ⌝ }
     ensures { λ r. ⌜ r ≡ item-at (now (word .entry)) at ⌝ }
 {
     let middle = run_end(word, at, b'1');
     let next = run_end(word, middle, b'#');
     Item {
         kind: kind_of(next - middle),
-        operand: (middle - at) as u32,
+        operand: operand_of(middle - at),
         next,
     }
 }
@@ -106,8 +109,8 @@ fn scan(word: &[u8]) -> Read
     }
 }
 
-// Rules 11 to 14.
-pub fn measure(word: &[u8]) -> Read
+// Rules 11 to 14, one after the other.
+fn examine(word: &[u8]) -> Read
     ensures { λ r. ⌜ r ≡ read-answer (read-word (now (word .entry))) ⌝ }
 {
     if word.len() == 0 {
@@ -121,6 +124,17 @@ pub fn measure(word: &[u8]) -> Read
         return refused(12, end);
     }
     scan(word)
+}
+
+// Rules 11 to 14. Where a word does not plainly pass, the rule and the place are found.
+pub fn measure(word: &[u8]) -> Read
+    ensures { λ r. ⌜ r ≡ read-answer (read-word (now (word .entry))) ⌝ }
+{
+    let count = plain_count(word);
+    if 0 < count {
+        return Read::Done(count);
+    }
+    examine(word)
 }
 
 // Puts the instructions of a word that measure passed into the two slices.

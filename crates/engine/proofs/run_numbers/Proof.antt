@@ -13,7 +13,8 @@ use borrow.Author.Needs.{needs}
 use Rattle.engine.proofs.run_numbers.Statement.{statement}
 use Rattle.engine.proofs.run_numbers.Tie as tie
 
-good : (c : tie.Else1) → let a = c .before .before .before .before .before .before .before .before .args in is-memory (memory (a .m) (a .store .now)
+good : (c : tie.Else1) → let a = c .before .before .before .before .before .before .before .before .args in is-memory (memory (a .m)
+    (a .store .now)
     (a .lengths .now)) ≡ true
 good c = sym (c .before .is-memory .ensures) ∙ not-false _ (c .if1 .left)
 
@@ -73,10 +74,12 @@ same-length-4 c = search needs
 
 returns-2 : tie.Need-returns-2
 returns-2 c =
-    let a = c .before .before .before .before .before .before .before .before .before .before .before .before .before .before .before .before .before .before .args in
+    let a = c .before .before .before .before .before .before .before .before .before .before .before .before .before .before .before
+    .before .before .before .args in
     let m = memory (a .m) (a .store .now) (a .lengths .now) in
     c .before .before .before .before .run-readable .ensures
-    ∙ sym (table-read m (a .at) (a .budget) (zipped (a .kinds .now) (a .operands .now)) (good (c .before .before .before .before .before .before .before .before .before .before))
+    ∙ sym (table-read m (a .at) (a .budget) (zipped (a .kinds .now) (a .operands .now)) (good
+    (c .before .before .before .before .before .before .before .before .before .before))
     (accepted (c .before .before .before .before .before .before .before)))
 
 same-length-5 : tie.Need-same-length-5

@@ -7,10 +7,11 @@ use lib.ListN.{length, take}
 use lib.Seq.{length-take-le}
 use Rattle.theory.specs.Word.{Entry}
 use Rattle.theory.specs.TurnedDown.{table-fault}
-use Rattle.word.specs.Answers.{kinds-of, operands-of, zipped, gathered}
+use Rattle.word.specs.Answers.{kinds-of, operands-of, zipped}
+use Rattle.records.specs.Answers.{gathered}
 use Rattle.memory.specs.Calls.{memory, table-called}
 use Rattle.engine.proofs.Judged.{got-refused, got-done}
-use Rattle.word.proofs.Gathers.{zipped-self}
+use Rattle.word.proofs.Zipped.{zipped-self}
 use Rattle.machine.proofs.ReadTable.{gathered-answer, got-kinds, got-operands, kinds-room, operands-room, table-refused}
 use borrow.Author.Needs.{needs}
 use Rattle.machine.proofs.run_gathered.Statement.{statement}

@@ -42,16 +42,17 @@ use denote.Triple.Walked.{says, Stays, gave-slice, stay-dropped, walkOf, AllGo, 
 use denote.Triple.Walked.{Walks, ends-at, walked, walk-meets}
 use denote.Exit.{yes, Exit, Last, left}
 use Rattle.theory.specs.Word.{Entry}
-use Rattle.word.specs.declared.answers.Gathered.{Gathered}
+use Rattle.records.specs.declared.Gathered.{Gathered}
 use Rattle.word.specs.declared.answers.Instruction.{Instruction}
-use Rattle.word.specs.Answers.{entries-of, gathered}
-use Rattle.word.proofs.answers.Gathered as TG
-use Rattle.word.proofs.answers.Gathered.Laws as TG′
+use Rattle.word.specs.Answers.{entries-of}
+use Rattle.records.specs.Answers.{gathered}
+use Rattle.records.proofs.Gathered as TG
+use Rattle.records.proofs.Gathered.Laws as TG′
 use Rattle.word.proofs.answers.Instruction as TI
-use Rattle.word.proofs.gather as gather
-use Rattle.word.proofs.gather.Symbol as gather-def
-use Rattle.word.proofs.gather.Symbol.{name as #word·gather}
-use Rattle.word.proofs.gather.Met as gather-thm
+use Rattle.records.proofs.gather as gather
+use Rattle.records.proofs.gather.Symbol as gather-def
+use Rattle.records.proofs.gather.Symbol.{name as #records·gather}
+use Rattle.records.proofs.gather.Met as gather-thm
 use Rattle.memory.specs.declared.answers.Machine.{Machine}
 use Rattle.memory.specs.declared.answers.Position.{Position}
 use Rattle.memory.specs.declared.answers.Run.{Run}
@@ -191,7 +192,7 @@ module _ {M : Type 1} (𝓤 : URA M) (H : Heap 𝓤) (A : Atoms 𝓤) (W : Given
       (1 ∷ 0 ∷ []) $ fjoin ! $
       nothing ! $ fjoin ! $ frame ! $ done !
 
-  module _ (C : Calls 𝓤 H) (Λ : Loops 𝓤 H) (fm : FmC 𝓤 H (W .laws) C) (known₁ : Triple 𝓤 (C #word·gather) (Gather 𝓤 H A mem run))
+  module _ (C : Calls 𝓤 H) (Λ : Loops 𝓤 H) (fm : FmC 𝓤 H (W .laws) C) (known₁ : Triple 𝓤 (C #records·gather) (Gather 𝓤 H A mem run))
       (known₂ : Triple 𝓤 (C #machine·run-gathered) (RunC 𝓤 H A mem run)) where
     walk : ent 𝓤 (onEntry 𝓤 H A f.signature κs₃ qs₃ x at)
         (WpFn 𝓤 H C Λ code.function (vm ∷ v₀ ∷ v₁ ∷ vp ∷ v₂ ∷ vint w32 budget ∷ []) Post)
@@ -262,7 +263,7 @@ module _ {M : Type 1} (𝓤 : URA M) (H : Heap 𝓤) (A : Atoms 𝓤) (W : Given
         keep ! (1 ∷ 5 ∷ 4 ∷ 2 ∷ 0 ∷ []) $ by ! (exits g r v zs e₀ e₁ (done-is t e))))))))))))))))))))))))))))
 
 module _ {M : Type 1} (𝓤 : URA M) (H : Heap 𝓤) (A : Atoms 𝓤) (W : Given 𝓤 H A) (mem : Memory → SProp 𝓤) (run : Routine → Fun 𝓤) where
-  run-table-walks : (C : Calls 𝓤 H) (Λ : Loops 𝓤 H) → FmC 𝓤 H (W .laws) C → Triple 𝓤 (C #word·gather) (Gather 𝓤 H A mem run)
+  run-table-walks : (C : Calls 𝓤 H) (Λ : Loops 𝓤 H) → FmC 𝓤 H (W .laws) C → Triple 𝓤 (C #records·gather) (Gather 𝓤 H A mem run)
       → Triple 𝓤 (C #machine·run-gathered) (RunC 𝓤 H A mem run)
       → Walks 𝓤 H A f.ended stayed (WpFn 𝓤 H C Λ code.function) (f.clauses 𝓤 H A mem run)
   run-table-walks C Λ fm known₁ known₂ =
@@ -317,7 +318,7 @@ module _ {M : Type 1} (𝓤 : URA M) (H : Heap 𝓤) (A : Atoms 𝓤) (W : Given
 
 run-table-meets : {M : Type 1} (𝓤 : URA M) (H : Heap 𝓤) (A : Atoms 𝓤) → Given 𝓤 H A → (mem : Memory → SProp 𝓤) (run : Routine → Fun 𝓤)
     (𝓣 : Tables 𝓤 H)
-    → Triple 𝓤 (𝓣 .C #word·gather) (Gather 𝓤 H A mem run) → Triple 𝓤 (𝓣 .C #machine·run-gathered) (RunC 𝓤 H A mem run)
+    → Triple 𝓤 (𝓣 .C #records·gather) (Gather 𝓤 H A mem run) → Triple 𝓤 (𝓣 .C #machine·run-gathered) (RunC 𝓤 H A mem run)
     → Meets 𝓤 H A f.signature (WpFn 𝓤 H (𝓣 .C) (𝓣 .Λ) code.function) (f.spec 𝓤 H A mem run)
 run-table-meets 𝓤 H A W mem run 𝓣 known₁ known₂ =
     walk-meets 𝓤 H A f.ended stayed W (goes 𝓤 H A W mem run) (f.clauses 𝓤 H A mem run) (WpFn 𝓤 H (𝓣 .C) (𝓣 .Λ) code.function)
@@ -329,7 +330,7 @@ run-table-spec 𝓤 H 𝓜 𝓖 𝓡 =
     entered 𝓤 H (tripleOf 𝓤 H (𝓖 .A) f.signature (f.spec 𝓤 H (𝓖 .A) (𝓜 .mem) (𝓡 .run)))
     (tables 𝓤 H 𝓜 𝓡 code.env .C) (tables 𝓤 H 𝓜 𝓡 code.env .Λ) #machine·run-table code.function (code.unfolded 𝓤 H 𝓜 𝓡)
     (run-table-meets 𝓤 H (𝓖 .A) (givenOf 𝓤 H 𝓜 𝓖) (𝓜 .mem) (𝓡 .run) (tablesOf 𝓤 H 𝓜 (tables 𝓤 H 𝓜 𝓡 code.env))
-    (cited 𝓤 H (Gather 𝓤 H (𝓖 .A) (𝓜 .mem) (𝓡 .run)) 𝓜 𝓡 code.env #word·gather gather-def.routine code.calls-word·gather
+    (cited 𝓤 H (Gather 𝓤 H (𝓖 .A) (𝓜 .mem) (𝓡 .run)) 𝓜 𝓡 code.env #records·gather gather-def.routine code.calls-records·gather
     (gather-thm.met 𝓤 H 𝓜 𝓖 𝓡))
     (cited 𝓤 H (RunC 𝓤 H (𝓖 .A) (𝓜 .mem) (𝓡 .run)) 𝓜 𝓡 code.env #machine·run-gathered run-def.routine code.calls-machine·run-gathered
     (run-thm.met 𝓤 H 𝓜 𝓖 𝓡)))

@@ -1,6 +1,6 @@
 -- `step` meets its contract: a walk of its MIR. The two slices are handed to `run_word` for good, the record is read through its open
--- borrow and passed
--- by value, and what `run_word` returns is taken apart by two calls: the position is stored in the record, and how the run ended is the result.
+-- borrow and passed by value, and what `run_word` returns is taken apart by two calls: the position is stored in the record, and how the
+-- run ended is the result.
 use mathlib.Core.Path.{_≡_, refl, sym, subst}
 use mathlib.Core.List.{List, [], _∷_}
 use Prim.Native.Nat.{ℕ}
@@ -356,7 +356,8 @@ step-spec 𝓤 H 𝓜 𝓖 𝓡 =
     entered 𝓤 H (tripleOf 𝓤 H (𝓖 .A) f.signature (f.spec 𝓤 H (𝓖 .A) (𝓜 .mem) (𝓡 .run)))
     (tables 𝓤 H 𝓜 𝓡 code.env .C) (tables 𝓤 H 𝓜 𝓡 code.env .Λ) #machine·step code.function (code.unfolded 𝓤 H 𝓜 𝓡)
     (step-meets 𝓤 H (𝓖 .A) (givenOf 𝓤 H 𝓜 𝓖) (𝓜 .mem) (𝓡 .run) (tablesOf 𝓤 H 𝓜 (tables 𝓤 H 𝓜 𝓡 code.env))
-    (cited 𝓤 H (RunC 𝓤 H (𝓖 .A) (𝓜 .mem) (𝓡 .run)) 𝓜 𝓡 code.env #machine·run-word run-def.routine code.calls-machine·run-word (run-thm.met 𝓤 H 𝓜 𝓖 𝓡))
+    (cited 𝓤 H (RunC 𝓤 H (𝓖 .A) (𝓜 .mem) (𝓡 .run)) 𝓜 𝓡 code.env #machine·run-word run-def.routine code.calls-machine·run-word
+    (run-thm.met 𝓤 H 𝓜 𝓖 𝓡))
     (cited 𝓤 H (PositionOf 𝓤 H (𝓖 .A) (𝓜 .mem)
     (𝓡 .run)) 𝓜 𝓡 code.env #machine·position-of position-of-def.routine code.calls-machine·position-of
     (position-of-thm.met 𝓤 H 𝓜 𝓖 𝓡))

@@ -1,19 +1,20 @@
 -- `program::check_list` meets its contract: before each command the faults that are left are those of the whole list.
-use mathlib.Core.Path.{_∙_}
+use mathlib.Core.Path.{refl, _∙_}
 use Prim.Native.Nat.{_≤_, _-_}
 use native.Mathlib.Omega.{arith}
 use borrow.Author.Needs.{needs}
 use lib.ListN.{length}
-use Rattle.program.proofs.Pairs.{judged-fault, judged-passes}
+use Rattle.program.proofs.Pairs.{one-is-open, judged-fault, judged-passes}
 use Rattle.program.proofs.ListCheck.{SoFar, at-first, too-many, faulty, onward, cut, whole}
 use Rattle.program.proofs.check_list.Statement.{statement}
 use Rattle.program.proofs.check_list.Tie as tie
 
 abbrev Inv-loop : tie.InvT-loop
-Inv-loop list nest₀ lines₀ variables₀ nest lines variables = (length list ≤ 1536) × SoFar list lines variables nest
+Inv-loop list openings₀ count₀ lines₀ variables₀ openings count lines variables =
+    (length list ≤ 1536) × SoFar list lines variables count openings
 
 abbrev μ-loop : tie.MeasureT-loop
-μ-loop list nest₀ lines₀ variables₀ nest lines variables = length list - lines
+μ-loop list openings₀ count₀ lines₀ variables₀ openings count lines variables = length list - lines
 
 add-refused : tie.Need-add-refused Inv-loop μ-loop
 add-refused c = omega arith
@@ -24,11 +25,8 @@ refused-requires c κs = tt
 returns : tie.Need-returns Inv-loop μ-loop
 returns c = rw (c .refused .ensures) (too-many (c .before .before .before .args .list .now) (omega arith))
 
-none-requires : tie.Need-none-requires Inv-loop μ-loop
-none-requires c κs = tt
-
 loop-holds : tie.Need-loop-holds Inv-loop μ-loop
-loop-holds c = (omega arith, rw (c .none .ensures) (at-first (c .before .before .before .args .list .now)))
+loop-holds c = (omega arith, at-first (c .before .before .args .list .now))
 
 mul-loop : tie.Need-mul-loop Inv-loop μ-loop
 mul-loop c = omega arith
@@ -60,41 +58,50 @@ add-source c = omega arith
 shared-slice-read-source : tie.Need-shared-slice-read-source Inv-loop μ-loop
 shared-slice-read-source c = omega arith
 
-add-judged : tie.Need-add-judged Inv-loop μ-loop
-add-judged c = omega arith
+mul-last : tie.Need-mul-last Inv-loop μ-loop
+mul-last c = search needs
 
-judged-requires : tie.Need-judged-requires Inv-loop μ-loop
-judged-requires c κs = c .before .before .before .before .loop .inv .1 .room
+array-copy-out-last : tie.Need-array-copy-out-last Inv-loop μ-loop
+array-copy-out-last c = omega arith
+
+add-lines : tie.Need-add-lines Inv-loop μ-loop
+add-lines c = omega arith
+
+judge-requires : tie.Need-judge-requires Inv-loop μ-loop
+judge-requires c κs = tt
 
 enum-known-r : tie.Need-enum-known-r Inv-loop μ-loop
 enum-known-r c = search needs
 
 returns-2 : tie.Need-returns-2 Inv-loop μ-loop
 returns-2 c =
-    let c7 = c .before .before .before .before .before .before .before in
-    let c8 = c7 .before in
-    let c12 = c8 .before .before .before .before in
-    let m = c8 .loop in
-    faulty (c12 .args .list .now) (m .lines) (m .variables) (m .nest) (m .inv .1) (c7 .loop-test .taken) _ (m .inv .0)
-    (judged-fault _ (c .before .before .before .judged .ensures) (c .before .r .given .1))
+    let c3 = c .before .before .before in
+    let c8 = c3 .before .before .before .before .before in
+    let m = c8 .before .loop in
+    faulty (c8 .before .before .before .before .args .list .now) (m .lines) (m .variables) (m .count) (m .openings) (m .inv .1)
+    (c8 .loop-test .taken) _ (m .inv .0) (judged-fault _ (c3 .judge .ensures (m .openings) refl) (c .before .r .given .1))
 
 enum-told : tie.Need-enum-told Inv-loop μ-loop
 enum-told c = search needs
 
-add-next : tie.Need-add-next Inv-loop μ-loop
-add-next c = omega arith
+add-openings : tie.Need-add-openings Inv-loop μ-loop
+add-openings c = omega arith
 
-next-requires : tie.Need-next-requires Inv-loop μ-loop
-next-requires c κs = (
-  c .before .before .before .before .before .before .before .loop .inv .1 .room,
-  judged-passes _ (c .before .before .judged .ensures) (c .enum-told .given .1),
-)
+mul-openings : tie.Need-mul-openings Inv-loop μ-loop
+mul-openings c = search needs
+
+array-set-from-openings : tie.Need-array-set-from-openings Inv-loop μ-loop
+array-set-from-openings c = omega arith
+
+open-after-requires : tie.Need-open-after-requires Inv-loop μ-loop
+open-after-requires c κs =
+    let c8 = c .before .before .before .before .before .before .before .before in
+    let m = c8 .loop in
+    let passed = judged-passes _ (c .before .before .judge .ensures (m .openings) refl) (c .enum-told .given .1) in
+    (m .inv .1 .room, one-is-open _ (m .count) (m .openings) _ _ (m .inv .1 .places) (m .inv .1 .room) _ passed)
 
 named-requires : tie.Need-named-requires Inv-loop μ-loop
 named-requires c κs = tt
-
-add-lines : tie.Need-add-lines Inv-loop μ-loop
-add-lines c = omega arith
 
 loop-less : tie.Need-loop-less Inv-loop μ-loop
 loop-less c = omega arith
@@ -102,13 +109,12 @@ loop-less c = omega arith
 loop-again : tie.Need-loop-again Inv-loop μ-loop
 loop-again c =
     let c4 = c .before .before .before .before in
-    let c8 = c4 .before .before .before .before in
-    let c9 = c8 .before in
-    let c13 = c9 .before .before .before .before in
-    let m = c9 .loop in
-    let passed = judged-passes _ (c4 .judged .ensures) (c .before .before .enum-told .given .1) in
-    let so-far = onward (c13 .args .list .now) (m .lines) (m .variables) (m .nest) (m .inv .1) (c8 .loop-test .taken) in
-    (m .inv .0, so-far _ _ passed (c .before .next .ensures) (c .named .ensures))
+    let c9 = c4 .before .before .before .before .before in
+    let m = c9 .before .loop in
+    let passed = judged-passes _ (c4 .judge .ensures (m .openings) refl) (c .before .before .enum-told .given .1) in
+    let list = c9 .before .before .before .before .args .list .now in
+    let so-far = onward list (m .lines) (m .variables) (m .count) (m .openings) (m .inv .1) in
+    (m .inv .0, rw (c .before .open-after .ensures) (so-far (c9 .loop-test .taken) _ passed (c .named .ensures)))
 
 mul-if2 : tie.Need-mul-if2 Inv-loop μ-loop
 mul-if2 c = omega arith
@@ -121,19 +127,29 @@ refused-requires-2 c κs = tt
 
 returns-3 : tie.Need-returns-3 Inv-loop μ-loop
 returns-3 c =
-    let c7 = c .before .before .before .before .before .before .before in
-    let m = c .before .before .before .loop in
+    let c3 = c .before .before .before in
+    let m = c3 .loop in
+    let list = c3 .before .before .before .args .list .now in
     rw (c .refused2 .ensures)
-    (cut (c7 .args .list .now) (m .lines) (m .variables) (m .nest) (m .inv .1) (omega arith) (omega arith) (m .inv .0))
+    (cut list (m .lines) (m .variables) (m .count) (m .openings) (m .inv .1) (omega arith) (omega arith)
+    (m .inv .0))
+
+mul-last-2 : tie.Need-mul-last-2 Inv-loop μ-loop
+mul-last-2 c = search needs
+
+array-copy-out-last-2 : tie.Need-array-copy-out-last-2 Inv-loop μ-loop
+array-copy-out-last-2 c = omega arith
 
 ended-requires : tie.Need-ended-requires Inv-loop μ-loop
-ended-requires c κs = c .before .before .loop .inv .1 .room
+ended-requires c κs = tt
 
 returns-4 : tie.Need-returns-4 Inv-loop μ-loop
 returns-4 c =
-    let c7 = c .before .before .before .before .before .before .before in
-    let m = c .before .before .before .loop in
-    c .ended .ensures ∙ whole (c7 .args .list .now) (m .lines) (m .variables) (m .nest) (m .inv .1) (omega arith) (m .inv .0)
+    let c4 = c .before .before .before .before in
+    let m = c4 .loop in
+    let list = c4 .before .before .before .args .list .now in
+    c .ended .ensures (m .openings) refl
+    ∙ whole list (m .lines) (m .variables) (m .count) (m .openings) (m .inv .1) (omega arith) (m .inv .0)
 
 pub check-list-spec : {M : Type 1} → statement M
 check-list-spec =
@@ -144,7 +160,6 @@ check-list-spec =
     add-refused
     refused-requires
     returns
-    none-requires
     loop-holds
     mul-loop
     add-loop
@@ -156,20 +171,25 @@ check-list-spec =
     mul-source
     add-source
     shared-slice-read-source
-    add-judged
-    judged-requires
+    mul-last
+    array-copy-out-last
+    add-lines
+    judge-requires
     enum-known-r
     returns-2
     enum-told
-    add-next
-    next-requires
+    add-openings
+    mul-openings
+    array-set-from-openings
+    open-after-requires
     named-requires
-    add-lines
     loop-less
     loop-again
     mul-if2
     add-refused-2
     refused-requires-2
     returns-3
+    mul-last-2
+    array-copy-out-last-2
     ended-requires
     returns-4)

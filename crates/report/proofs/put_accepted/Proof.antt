@@ -3,7 +3,7 @@ use mathlib.Core.Path.{_≡_, subst}
 use mathlib.Core.Option.{some}
 use borrow.Author.Needs.{needs}
 use Rattle.theory.specs.TurnedDown.{sheet-fault}
-use Rattle.report.specs.Rows.{commands}
+use Rattle.theory.specs.ProgramText.{commands}
 use Rattle.report.proofs.Reading.{listed-few}
 use Rattle.report.proofs.Columns.{found-refused, found-accepted}
 use Rattle.report.proofs.Printing.{sheet-refused, refusal-printed}

@@ -6,8 +6,9 @@ use native.Mathlib.Omega.{arith}
 use lib.ListN.{length}
 use borrow.Author.Needs.{needs}
 use Rattle.theory.specs.Translation.{word-text}
-use Rattle.report.specs.Rows.{commands, Ready, Tabled}
-use Rattle.text.proofs.Puts.{put-length}
+use Rattle.theory.specs.ProgramText.{commands}
+use Rattle.report.specs.Rows.{Ready, Tabled}
+use Rattle.output.proofs.Puts.{put-length}
 use Rattle.report.proofs.Underway.{Writing}
 use Rattle.report.proofs.Stepping.{Turn, turn, small, rows-begin, rows-printed}
 use Rattle.report.proofs.put_rows.Statement.{statement}

@@ -6,11 +6,11 @@ use native.Mathlib.Omega.{arith}
 use lib.ListN.{length, replicate, length-replicate}
 use borrow.Author.Needs.{needs}
 use Rattle.theory.specs.Text.{Bytes}
-use Rattle.theory.specs.ProgramText.{variables}
+use Rattle.theory.specs.ProgramText.{variables, commands}
 use Rattle.theory.specs.TurnedDown.{read-list, sheet-fault}
 use Rattle.sheet.specs.declared.answers.Names.{Names}
-use Rattle.report.specs.Puts.{refusal-line}
-use Rattle.report.specs.Rows.{commands, Listed, Given}
+use Rattle.printing.specs.Lines.{refusal-line}
+use Rattle.report.specs.Rows.{Listed, Given}
 use Rattle.report.proofs.Translating.{InBuffer, word-too-long, word-in-buffer}
 use Rattle.report.proofs.Printing.{word-refused, all-printed, refusal-printed}
 use Rattle.report.proofs.put_translated.Statement.{statement}
@@ -44,13 +44,15 @@ held c =
     (c .size .given .0 .0) (called .translate-list .last .1 .0) done-then (called .translate-list .ensures .1)
 
 -- The sheet is accepted for the program of the list
-accepted : (list s : Bytes) (names : Names) (K : ℕ) → Listed list K → Given s names K → sheet-fault 1024 (variables (commands list)) s ≡ none
+accepted : (list s : Bytes) (names : Names) (K : ℕ) → Listed list K → Given s names K → sheet-fault 1024 (variables
+    (commands list)) s ≡ none
 accepted list s names K listed given = subst (λ k. sheet-fault 1024 k s ≡ none) (listed .named) (given .passes)
 
 array-share-prefix-word : tie.Need-array-share-prefix-word
 array-share-prefix-word c =
     let h = held (c .before) in
-    let size : length (c .before .before .before .before .translate-list .last .1 .0) ≡ 65536 = c .before .before .before .before .translate-list .kept .1 .0 in
+    let size : length (c .before .before .before .before .translate-list .last .1 .0) ≡ 65536 = c .before .before .before .before
+    .translate-list .kept .1 .0 in
     omega (arith, h .fits, h .counted)
 
 slice-aggregate-put-word-rows : tie.Need-slice-aggregate-put-word-rows

@@ -73,10 +73,13 @@ module _ (c : tie.After-is-source) where
     entries-room = omega (arith, few start, start .pre .lines-are, c .before .before .before .fill-entries .kept .1 .1 .0);
   }
 
+refused-requires : tie.Need-refused-requires
+refused-requires c κs = search needs
+
 returns : tie.Need-returns
 returns c =
-    let call : _ = c .before .is-source in
-    rule-9-back _ _ _ (sym (call .ensures) ∙ not-true (call .result) (c .if1 .taken))
+    let call : _ = c .before .before .is-source in
+    rw (c .refused .ensures) (rule-9-back _ _ _ (sym (call .ensures) ∙ not-true (call .result) (c .before .if1 .taken)))
 
 sub-least : tie.Need-sub-least
 sub-least c = search needs
@@ -153,6 +156,7 @@ run-accepted-spec =
     fill-entries-requires
     slice-aggregate-is-source
     is-source-requires
+    refused-requires
     returns
     sub-least
     least-requires

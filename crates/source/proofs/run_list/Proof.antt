@@ -22,6 +22,9 @@ run-accepted-requires c κs = read-given _ _ (accepted (c .before))
 enum-known-refusal : tie.Need-enum-known-refusal
 enum-known-refusal c = search needs
 
+refused-requires : tie.Need-refused-requires
+refused-requires c κs = search needs
+
 returns : tie.Need-returns
 returns c =
     let a : _ = accepted (c .before .before) in
@@ -29,11 +32,16 @@ returns c =
 
 returns-2 : tie.Need-returns-2
 returns-2 c =
-    let call : tie.After-check-list = c .before .before .before in
-    let said : _ = sym (call .check-list .ensures) ∙ c .before .refusal .given .1 in
-    rw (refused-as (read-list (call .before .before .args .list .now)) (c .before .refusal .given .0 .0) said) (refused-back _ _)
+    let told : tie.After-refusal = c .before .before in
+    let call : tie.After-check-list = told .before .before in
+    let said : _ = sym (call .check-list .ensures) ∙ told .refusal .given .1 in
+    rw (
+      c .refused .ensures,
+      refused-as (read-list (call .before .before .args .list .now)) (told .refusal .given .0 .0) said,
+    )
+    (refused-back _ _)
 
 pub run-list-spec : {M : Type 1} → statement M
 run-list-spec =
     tie.close
-    (tie.spec check-list-requires enum-known-p run-accepted-requires enum-known-refusal returns returns-2)
+    (tie.spec check-list-requires enum-known-p run-accepted-requires enum-known-refusal refused-requires returns returns-2)

@@ -8,9 +8,10 @@ use borrow.Author.Needs.{needs}
 use lib.ListN.{length, take, replicate}
 use lib.Seq.{length-take-le}
 use Rattle.theory.specs.TurnedDown.{read-text}
+use Rattle.theory.specs.ProgramText.{commands}
 use Rattle.program.specs.Answers.{checked}
 use Rattle.program.specs.declared.Program.{Program}
-use Rattle.source.specs.Lines.{program, Given}
+use Rattle.source.specs.Lines.{Given}
 use Rattle.source.proofs.Results.{refused-back}
 use Rattle.source.proofs.Reading.{AcceptedAs, accepted-as, refused-as, buffer-read, numbers-few, text-given, text-program}
 use Rattle.source.proofs.run_text.Statement.{statement}
@@ -46,7 +47,7 @@ module _ (c : tie.After-p) where
   given : Given (take (3 * answered .lines) last) (answered .lines) (answered .variables)
   given = text-given buffer text refl answered accepted last (c .before .before .before .read .ensures .1)
 
-  held : program (take (3 * answered .lines) last) ≡ accepted .commands
+  held : commands (take (3 * answered .lines) last) ≡ accepted .commands
   held = text-program buffer text refl answered accepted last (c .before .before .before .read .ensures .1)
 
 slice-aggregate-read : tie.Need-slice-aggregate-read
@@ -73,6 +74,9 @@ run-accepted-requires c κs = given (c .before .before .before)
 enum-known-refusal : tie.Need-enum-known-refusal
 enum-known-refusal c = search needs
 
+refused-requires : tie.Need-refused-requires
+refused-requires c κs = search needs
+
 returns : tie.Need-returns
 returns c =
     let at : tie.After-p = c .before .before .before .before in
@@ -80,9 +84,14 @@ returns c =
 
 returns-2 : tie.Need-returns-2
 returns-2 c =
-    let call : tie.After-read = c .before .before .before .before in
-    let answer : _ = sym (said call) ∙ c .before .refusal .given .1 in
-    rw (refused-as (read-text (call .before .before .before .args .text .now)) (c .before .refusal .given .0 .0) answer) (refused-back _ _)
+    let told : tie.After-refusal = c .before .before in
+    let call : tie.After-read = told .before .before .before in
+    let answer : _ = sym (said call) ∙ told .refusal .given .1 in
+    rw (
+      c .refused .ensures,
+      refused-as (read-text (call .before .before .before .args .text .now)) (told .refusal .given .0 .0) answer,
+    )
+    (refused-back _ _)
 
 pub run-text-spec : {M : Type 1} → statement M
 run-text-spec =
@@ -96,5 +105,6 @@ run-text-spec =
     slice-aggregate-run-accepted
     run-accepted-requires
     enum-known-refusal
+    refused-requires
     returns
     returns-2)

@@ -9,16 +9,17 @@ put-instruction-requires c κs = search needs
 
 put-block-requires : tie.Need-put-block-requires
 put-block-requires c κs =
-    site _ _ _ (c .before .before .before .before .before .before .before .pre .0)
+    let k : _ = c .before .before .before .before .before .before .before .before .pre in
+    (site _ _ _ (k .0), k .1)
 
 same-length : tie.Need-same-length
 same-length c = search needs
 
 returns : tie.Need-returns
 returns c =
-    let k : _ = c .before .before .before .before .before .before .before .before .before .before .pre in
-    let f : _ = c .before .before .before .before .before .before .put-instruction .ensures .put in
-    word-put _ _ _ (k .0) _ _ _ _ _ (k .1) f (c .before .before .put-block .ensures)
+    let f : _ = c .before .before .before .before .before .before in
+    let k : _ = f .before .before .before .before .before .pre in
+    word-put _ _ _ (k .0) _ _ _ _ _ (k .2) (f .put-instruction .ensures .put) (c .before .before .put-block .ensures)
 
 pub put-word-spec : {M : Type 1} → statement M
 put-word-spec =

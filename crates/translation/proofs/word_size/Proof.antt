@@ -1,24 +1,35 @@
 -- `word_size` meets its contract: F1 has four symbols, and the rest is the code of the block at the first line.
+use mathlib.Core.Path.{_∙_}
 use native.Mathlib.Omega.{arith}
-use Rattle.translation.proofs.Wholes.{site, small, size-is}
+use borrow.Author.Needs.{needs}
+use Rattle.translation.proofs.Noting.{noting-whole}
+use Rattle.translation.proofs.Wholes.{site, small, whole-lines, size-is}
 use Rattle.translation.proofs.word_size.Statement.{statement}
 use Rattle.translation.proofs.word_size.Tie as tie
 
 block-size-requires : tie.Need-block-size-requires
-block-size-requires c κs = site _ _ _ (c .before .pre)
+block-size-requires c κs = (site _ _ _ (c .before .before .before .pre .0), c .before .before .before .pre .1)
 
-add-t5 : tie.Need-add-t5
-add-t5 c =
-    let h : _ = small _ _ _ (c .before .before .before .pre) in
-    omega (arith, h .symbols, c .before .block-size .ensures .symbols)
+add-t8 : tie.Need-add-t8
+add-t8 c =
+    let h : _ = small _ _ _ (c .before .before .before .before .before .before .before .pre .0) in
+    omega (arith, h .symbols, c .before .before .before .block-size .ensures .0 .symbols)
 
-add-t6 : tie.Need-add-t6
-add-t6 c =
-    let h : _ = small _ _ _ (c .before .before .before .before .pre) in
-    omega (arith, h .instructions, c .before .before .block-size .ensures .instructions)
+add-t9 : tie.Need-add-t9
+add-t9 c =
+    let b : _ = c .before .before .before .before in
+    let h : _ = small _ _ _ (b .before .before .before .before .pre .0) in
+    omega (arith, h .instructions, b .block-size .ensures .0 .instructions)
+
+same-length : tie.Need-same-length
+same-length c = search needs
 
 returns : tie.Need-returns
-returns c = size-is _ _ _ (c .before .before .before .before .pre) _ (c .before .before .block-size .ensures)
+returns c =
+    let b : _ = c .before .before .before .before in
+    let k : _ = b .before .before .before .before .pre in
+    let e : _ = b .block-size .ensures in
+    (size-is _ _ _ (k .0) _ (e .0), noting-whole _ _ _ _ _ _ (e .0 .ended ∙ whole-lines _ _ _ (k .0)) (k .1) (e .1))
 
 pub word-size-spec : {M : Type 1} → statement M
-word-size-spec = tie.close (tie.spec block-size-requires add-t5 add-t6 returns)
+word-size-spec = tie.close (tie.spec block-size-requires add-t8 add-t9 same-length returns)

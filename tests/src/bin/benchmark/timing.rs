@@ -1,23 +1,38 @@
-//! Times of the library and the twin, taken in turns, so that what disturbs the machine disturbs both.
+//! Times of two doers of the same work, taken in turns, so that what disturbs the machine disturbs both. The times of one work are spread
+//! over the whole measurement, so that a disturbance that lasts does not fall on one work alone; and each is short.
 
 use std::time::{Duration, Instant};
 
-/// A piece of work by its name and the lines or symbols in it, and the two times that it took.
+/// A piece of work by its name and the lines or symbols in it, as the library does it and as something else does.
+pub struct Work {
+    name: String,
+    size: usize,
+    library: Box<dyn FnMut()>,
+    other: Box<dyn FnMut()>,
+}
+
+/// The two best times that a work took.
 pub struct Row {
     pub name: String,
     pub size: usize,
     pub library: Duration,
-    pub twin: Duration,
+    pub other: Duration,
+}
+
+impl Work {
+    pub fn new(name: &str, size: usize, library: impl FnMut() + 'static, other: impl FnMut() + 'static) -> Work {
+        Work { name: name.into(), size, library: Box::new(library), other: Box::new(other) }
+    }
 }
 
 impl Row {
     pub fn ratio(&self) -> f64 {
-        self.library.as_secs_f64() / self.twin.as_secs_f64()
+        self.library.as_secs_f64() / self.other.as_secs_f64()
     }
 }
 
-const ROUNDS: usize = 9;
-const LONG_ENOUGH: Duration = Duration::from_millis(8);
+const ROUNDS: usize = 60;
+const LONG_ENOUGH: Duration = Duration::from_millis(1);
 
 fn batch(work: &mut dyn FnMut(), times: u32) -> Duration {
     let start = Instant::now();
@@ -34,13 +49,16 @@ fn times(work: &mut dyn FnMut()) -> u32 {
     times
 }
 
-/// The best of several times of each, library and twin by turns.
-pub fn row(name: &str, size: usize, library: &mut dyn FnMut(), twin: &mut dyn FnMut()) -> Row {
-    let (of_library, of_twin) = (times(library), times(twin));
-    let mut best = (Duration::MAX, Duration::MAX);
+/// The best of several times of each work: all works once, then all again.
+pub fn measure(mut works: Vec<Work>) -> Vec<Row> {
+    let counts: Vec<_> = works.iter_mut().map(|w| (times(&mut w.library), times(&mut w.other))).collect();
+    let mut best = vec![(Duration::MAX, Duration::MAX); works.len()];
     for _ in 0..ROUNDS {
-        best.0 = best.0.min(batch(library, of_library) / of_library);
-        best.1 = best.1.min(batch(twin, of_twin) / of_twin);
+        for ((work, best), count) in works.iter_mut().zip(&mut best).zip(&counts) {
+            best.0 = best.0.min(batch(&mut work.library, count.0) / count.0);
+            best.1 = best.1.min(batch(&mut work.other, count.1) / count.1);
+        }
     }
-    Row { name: name.into(), size, library: best.0, twin: best.1 }
+    let rows = works.into_iter().zip(best);
+    rows.map(|(work, (library, other))| Row { name: work.name, size: work.size, library, other }).collect()
 }

@@ -1,12 +1,13 @@
-//! What is measured: each piece of work once by the library and once by the twin, on the same input, with the same checks.
+//! What is measured: each piece of work once by the library and once by the twin, or by plain C, on the same input, with the same checks.
 
-use crate::timing::{row, Row};
+use crate::timing::Work;
 use std::hint::black_box;
-use std::path::Path;
+use std::path::PathBuf;
 use std::process::{Command as Process, Stdio};
+use std::rc::Rc;
 use std::{env, fs};
 use twin::cases::Program;
-use twin::library;
+use twin::library::{self, Code};
 use twin::machine::Machine;
 use twin::program::{self, read, read_list, Command, Kind};
 use twin::source::{check, run, State};
@@ -33,13 +34,13 @@ pub fn as_list(text: &[u8]) -> Program {
     Program::List(program::list(&read(text).expect("an accepted program")))
 }
 
-pub fn symbols(text: &[u8]) -> usize {
-    spell(&translate(&read(text).expect("an accepted program"))).len()
+pub fn word_of(text: &[u8]) -> Vec<u8> {
+    spell(&translate(&read(text).expect("an accepted program")))
 }
 
 /// As many copies in 16 loops as make about so many symbols.
 pub fn in_16_loops(length: usize) -> Vec<u8> {
-    let (none, most) = (symbols(&nested(16, 0)), symbols(&nested(16, 480)));
+    let (none, most) = (word_of(&nested(16, 0)).len(), word_of(&nested(16, 480)).len());
     nested(16, length.saturating_sub(none) * 480 / (most - none))
 }
 
@@ -55,136 +56,194 @@ pub fn moving_word() -> Vec<u8> {
     spell(&moves.into_iter().map(|(kind, operand)| Instruction { kind, operand }).collect::<Vec<_>>())
 }
 
-pub fn reading(name: &str, size: usize, text: &[u8]) -> Row {
+pub fn reading(name: &str, size: usize, text: &[u8]) -> Work {
+    let (text, again) = (text.to_vec(), text.to_vec());
     let mut list = [0; 1536];
-    row(
+    Work::new(
         name,
         size,
-        &mut || {
-            black_box(library::read_program(black_box(text), &mut list));
+        move || {
+            black_box(library::read_program(black_box(&text), &mut list));
         },
-        &mut || {
-            black_box(read(black_box(text)).map(|c| program::list(&c))).ok();
+        move || {
+            black_box(read(black_box(&again)).map(|c| program::list(&c))).ok();
         },
     )
 }
 
-pub fn writing(name: &str, size: usize, text: &[u8]) -> Row {
+pub fn writing(name: &str, size: usize, text: &[u8]) -> Work {
     let list = program::list(&read(text).expect("an accepted program"));
+    let again = list.clone();
     let mut written = vec![0; 16_384];
-    row(
+    Work::new(
         name,
         size,
-        &mut || {
+        move || {
             black_box(library::write_program(black_box(&list), &mut written));
         },
-        &mut || {
-            black_box(read_list(black_box(&list)).map(|c| program::write(&c))).ok();
+        move || {
+            black_box(read_list(black_box(&again)).map(|c| program::write(&c))).ok();
         },
     )
 }
 
-pub fn translating(name: &str, size: usize, program: &Program) -> Row {
+pub fn translating(name: &str, size: usize, program: Program) -> Work {
+    let again = program.clone();
     let mut word = vec![0; 400_000];
-    row(
+    Work::new(
         name,
         size,
-        &mut || {
-            black_box(match black_box(program) {
+        move || {
+            black_box(match black_box(&program) {
                 Program::Text(text) => library::translate(text, &mut word),
                 Program::List(list) => library::translate_list(list, &mut word),
             });
         },
-        &mut || {
-            black_box(black_box(program).read().map(|c| spell(&translate(&c)))).ok();
+        move || {
+            black_box(black_box(&again).read().map(|c| spell(&translate(&c)))).ok();
         },
     )
 }
 
-pub fn running_source(name: &str, program: &Program, values: &[u32]) -> Row {
+pub fn running_source(name: &str, program: Program, values: &[u32]) -> Work {
     let mut start = [0; 32];
     start[..values.len()].copy_from_slice(values);
     let fresh = State::fresh(1024, start);
-    row(
+    let (numbers, again) = (fresh.numbers(), program.clone());
+    Work::new(
         name,
         0,
-        &mut || {
-            let mut state = fresh.numbers();
-            black_box(match black_box(program) {
+        move || {
+            let mut state = numbers;
+            black_box(match black_box(&program) {
                 Program::Text(text) => library::run_source(text, &mut state, 100_000),
                 Program::List(list) => library::run_source_list(list, &mut state, 100_000),
             });
         },
-        &mut || {
+        move || {
             let mut state = fresh.clone();
-            let commands = black_box(program).read().expect("an accepted program");
+            let commands = black_box(&again).read().expect("an accepted program");
             check(&commands, &state).expect("a good state");
             black_box(run(&commands, &mut state, 100_000));
         },
     )
 }
 
-pub fn writing_word(name: &str, size: usize, text: &[u8]) -> Row {
+/// The kinds and operands of a word.
+fn numbers_of(text: &[u8]) -> (Vec<u8>, Vec<u32>) {
     let table = word::read(text).expect("a word");
-    let kinds: Vec<_> = table.iter().map(|i| i.kind).collect();
-    let operands: Vec<_> = table.iter().map(|i| i.operand).collect();
+    (table.iter().map(|i| i.kind).collect(), table.iter().map(|i| i.operand).collect())
+}
+
+/// A word written by the library, as a work of which the other half is still to be said.
+fn writes(text: &[u8]) -> impl FnMut() + 'static {
+    let (kinds, operands) = numbers_of(text);
     let mut written = vec![0; 600_000];
-    row(
-        name,
-        size,
-        &mut || {
-            black_box(library::write_word(black_box(&kinds), black_box(&operands), &mut written));
-        },
-        &mut || {
-            black_box(word::check_table(black_box(&table)).map(|()| spell(&table))).ok();
-        },
-    )
+    move || {
+        black_box(library::write_word(black_box(&kinds), black_box(&operands), &mut written));
+    }
 }
 
-pub fn reading_word(name: &str, size: usize, text: &[u8]) -> Row {
+/// A word read by the library, likewise.
+fn reads(text: &[u8]) -> impl FnMut() + 'static {
+    let text = text.to_vec();
     let (mut kinds, mut operands) = (vec![0; 8192], vec![0; 8192]);
-    row(
-        name,
-        size,
-        &mut || {
-            black_box(library::read_word(black_box(text), &mut kinds, &mut operands));
-        },
-        &mut || {
-            black_box(word::read(black_box(text))).ok();
-        },
-    )
+    move || {
+        black_box(library::read_word(black_box(&text), &mut kinds, &mut operands));
+    }
 }
 
-/// A word run for at most 100,000 steps.
-pub fn running_word(name: &str, size: usize, text: &[u8], fresh: &Machine) -> Row {
-    row(
+pub fn writing_word(name: &str, size: usize, text: &[u8]) -> Work {
+    let table = word::read(text).expect("a word");
+    Work::new(name, size, writes(text), move || {
+        black_box(word::check_table(black_box(&table)).map(|()| spell(&table))).ok();
+    })
+}
+
+pub fn reading_word(name: &str, size: usize, text: &[u8]) -> Work {
+    let again = text.to_vec();
+    Work::new(name, size, reads(text), move || {
+        black_box(word::read(black_box(&again))).ok();
+    })
+}
+
+extern "C" {
+    fn plain_read_word(word: *const u8, len: usize, kinds: *mut u8, operands: *mut u32, room: usize) -> usize;
+    fn plain_write_word(kinds: *const u8, operands: *const u32, count: usize, word: *mut u8, room: usize) -> usize;
+}
+
+/// A word written by the library and by plain.c.
+pub fn writing_plainly(name: &str, text: &[u8]) -> Work {
+    let (kinds, operands) = numbers_of(text);
+    let (mut written, symbols) = (vec![0; 600_000], text.len());
+    Work::new(name, symbols, writes(text), move || {
+        let (kinds, operands) = (black_box(&kinds), black_box(&operands));
+        let done = unsafe { plain_write_word(kinds.as_ptr(), operands.as_ptr(), kinds.len(), written.as_mut_ptr(), written.len()) };
+        assert_eq!(black_box(done), symbols);
+    })
+}
+
+/// A word read by the library and by plain.c.
+pub fn reading_plainly(name: &str, text: &[u8]) -> Work {
+    let (again, count) = (text.to_vec(), numbers_of(text).0.len());
+    let (mut kinds, mut operands) = (vec![0; 8192], vec![0; 8192]);
+    Work::new(name, text.len(), reads(text), move || {
+        let text = black_box(&again);
+        let done = unsafe { plain_read_word(text.as_ptr(), text.len(), kinds.as_mut_ptr(), operands.as_mut_ptr(), kinds.len()) };
+        assert_eq!(black_box(done), count);
+    })
+}
+
+/// A word run for at most 100,000 steps, from its text or, where `read` says so, from its table, which is then read beforehand.
+pub fn running_word(name: &str, size: usize, text: &[u8], fresh: &Machine, read: bool) -> Work {
+    let (text, machine, again) = (text.to_vec(), fresh.clone(), fresh.clone());
+    let (kinds, operands) = numbers_of(&text);
+    let (table, whole) = (word::read(&text).expect("a word"), text.clone());
+    Work::new(
         name,
         size,
-        &mut || {
-            let mut machine = fresh.clone();
-            black_box(library::run_word(&mut machine, black_box(text), 100_000));
+        move || {
+            let mut machine = machine.clone();
+            let code = if read { Code::Table(&kinds, &operands) } else { Code::Word(&text) };
+            black_box(library::run(&mut machine, black_box(code), 100_000));
         },
-        &mut || {
-            let mut machine = fresh.clone();
-            let table = machine.accept(black_box(text)).expect("a good machine and word");
-            black_box(machine.run(&table, 100_000));
+        move || {
+            let mut machine = again.clone();
+            if read {
+                machine.accept_table(black_box(&table)).expect("a good machine and table");
+                black_box(machine.run(&table, 100_000));
+            } else {
+                let table = machine.accept(black_box(&whole)).expect("a good machine and word");
+                black_box(machine.run(&table, 100_000));
+            }
         },
     )
 }
 
 /// The run tool that RUN_TOOL names against the twin's, as processes in one folder, on so many products of 30 and 30.
-pub fn reporting(name: &str, rows: usize) -> Row {
-    let folder = env::temp_dir().join(format!("benchmark-{}", std::process::id()));
+pub fn reporting(name: &str, rows: usize) -> Work {
+    let folder = env::temp_dir().join(format!("benchmark-{}-{rows}", std::process::id()));
     fs::create_dir_all(&folder).expect("a folder for the files");
     fs::write(folder.join("program.txt"), MULTIPLY).expect("a file in the folder");
     fs::write(folder.join("sheet.txt"), "X1 X2\n".to_string() + &"30 30\n".repeat(rows)).expect("a file in the folder");
     let tool = env::var_os("RUN_TOOL").expect("RUN_TOOL names the run tool");
     let twin = env::current_exe().expect("this program's path").with_file_name("twin-tool");
-    let run = |path: &Path| {
-        let done = Process::new(path).current_dir(&folder).stdout(Stdio::null()).status().expect("the tool runs");
-        assert!(done.success());
+    let folder = Rc::new(Folder(folder));
+    let runs = |path: PathBuf| {
+        let folder = folder.clone();
+        move || {
+            let done = Process::new(&path).current_dir(&folder.0).stdout(Stdio::null()).status().expect("the tool runs");
+            assert!(done.success());
+        }
     };
-    let row = row(name, rows, &mut || run(Path::new(&tool)), &mut || run(&twin));
-    fs::remove_dir_all(&folder).expect("the folder is removed");
-    row
+    Work::new(name, rows, runs(tool.into()), runs(twin))
+}
+
+/// A folder that goes when this does.
+struct Folder(PathBuf);
+
+impl Drop for Folder {
+    fn drop(&mut self) {
+        fs::remove_dir_all(&self.0).ok();
+    }
 }

@@ -7,7 +7,7 @@ use borrow.Author.Needs.{needs}
 use lib.ListN.{length, drop}
 use Rattle.theory.specs.Text.{Found, name}
 use Rattle.text.specs.Numbers.{found-in}
-use Rattle.text.specs.declared.read.Number.the-variants.{To}
+use Rattle.text.specs.declared.Number.the-variants.{To}
 use Rattle.command.specs.Lines.{named}
 use Rattle.command.proofs.reading.name_at.Statement.{statement}
 use Rattle.command.proofs.reading.name_at.Tie as tie

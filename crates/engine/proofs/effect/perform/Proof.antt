@@ -68,9 +68,17 @@ same-length-3 c = search needs
 returns : tie.Need-returns
 returns c f i k o h =
     let a = c .before .before .before .before .before .before .before .before .before .before .before .before .before .args in
-    let e : a .operand ≡ suc (a .operand - 1) = omega (arith, c .before .before .before .before .before .before .before .before .before .before .before .before .before .pre .2 .some) in
+    let e : a .operand ≡ suc (a .operand - 1) = omega (
+      arith,
+      c .before .before .before .before .before .before .before .before .before
+          .before .before .before .before .pre .2 .some,
+    ) in
     let done = c .before .before .before .before .before .append in
-    rw (is-append-one i (k ∙ c .before .before .before .before .before .before .before .before .before .match .keys1) (o ∙ e), c .next-if .ensures)
+    rw (
+      is-append-one i (k ∙ c .before .before .before .before .before .before .before .before .before .match .keys1) (o
+          ∙ e),
+      c .next-if .ensures,
+    )
     (did-append (a .capacity) f (a .here) _ _ _ (a .operand - 1) one (done .result) (done .ensures f one refl h))
 
 same-length-4 : tie.Need-same-length-4
@@ -85,15 +93,24 @@ same-length-6 c = search needs
 returns-2 : tie.Need-returns-2
 returns-2 c f i k o h =
     let a = c .before .before .before .before .before .before .before .before .before .before .before .before .before .args in
-    let e : a .operand ≡ suc (a .operand - 1) = omega (arith, c .before .before .before .before .before .before .before .before .before .before .before .before .before .pre .2 .some) in
+    let e : a .operand ≡ suc (a .operand - 1) = omega (
+      arith,
+      c .before .before .before .before .before .before .before .before .before
+          .before .before .before .before .pre .2 .some,
+    ) in
     let done = c .before .before .before .before .before .append2 in
-    rw (is-append-hash i (k ∙ c .before .before .before .before .before .before .before .before .before .match .keys2) (o ∙ e), c .next-if2 .ensures)
+    rw (
+      is-append-hash i (k ∙ c .before .before .before .before .before .before .before .before .before .match .keys2) (o
+          ∙ e),
+      c .next-if2 .ensures,
+    )
     (did-append (a .capacity) f (a .here) _ _ _ (a .operand - 1) hash (done .result) (done .ensures f hash refl h))
 
 returns-3 : tie.Need-returns-3
 returns-3 c f i k o h =
     let a = c .before .before .before .before .args in
-    rw (is-forward i (k ∙ c .match .keys3) o) (did-forward (a .capacity) f (a .here) _ _ _ (a .operand) (c .before .before .before .before .pre .2 .small) h)
+    rw (is-forward i (k ∙ c .match .keys3) o) (did-forward (a .capacity) f (a .here) _ _ _ (a .operand)
+    (c .before .before .before .before .pre .2 .small) h)
 
 returns-4 : tie.Need-returns-4
 returns-4 c f i k o h =
@@ -113,8 +130,13 @@ same-length-9 c = search needs
 
 returns-5 : tie.Need-returns-5
 returns-5 c f i k o h =
-    let a = c .before .before .before .before .before .before .before .before .before .before .before .before .before .before .before .args in
-    let e : a .operand ≡ suc (a .operand - 1) = omega (arith, c .before .before .before .before .before .before .before .before .before .before .before .before .before .before .before .pre .2 .some) in
+    let a = c .before .before .before .before .before .before .before .before .before .before .before .before .before .before .before
+    .args in
+    let e : a .operand ≡ suc (a .operand - 1) = omega (
+      arith,
+      c .before .before .before .before .before .before .before .before .before
+          .before .before .before .before .before .before .pre .2 .some,
+    ) in
     let r = c .before .before .before .before .before .before .before .before .before .before .before .match .rest in
     let d = c .before .before .before .before .before .before .before .delete-first in
     rw (is-cases i (r .0 .0 .0 .1) (r .0 .0 .1) (r .0 .1) (r .1) k (o ∙ e), c .by-byte .ensures)

@@ -19,7 +19,8 @@ ends : (c : tie.In-loop Inv-loop μ-loop)
     ≤ length (c .before .loop .store)
 ends c =
     let a = c .before .before .before .before .args in
-    ordering-room (a .registers) (a .capacity) (a .starts .now) (a .store .now) (c .before .loop .inv) (c .before .before .before .before .pre .0)
+    ordering-room (a .registers) (a .capacity) (a .starts .now) (a .store .now) (c .before .loop .inv)
+    (c .before .before .before .before .pre .0)
     (c .loop-test .taken)
 
 loop-holds : tie.Need-loop-holds Inv-loop μ-loop
@@ -46,7 +47,12 @@ mul-turn : tie.Need-mul-turn Inv-loop μ-loop
 mul-turn c = search needs
 
 shared-slice-read-turn : tie.Need-shared-slice-read-turn Inv-loop μ-loop
-shared-slice-read-turn c = omega (arith, c .before .before .before .before .before .before .pre .3 .enough, c .before .before .loop-test .taken)
+shared-slice-read-turn c = omega (
+  arith,
+  c .before .before .before .before .before .before .pre .3 .enough,
+  c .before .before .loop-test
+      .taken,
+)
 
 turn-requires : tie.Need-turn-requires Inv-loop μ-loop
 turn-requires c κs =
@@ -69,7 +75,8 @@ loop-again c =
     let p = c .before .before .before .before .before .before .before .before .before .pre in
     let h = c .before .before .before .before .before .before .loop in
     let t = c .before .before .turn in
-    ordering-more (a .registers) (a .capacity) (a .starts .now) (a .store .now) (h .inv) (p .0) (c .before .before .before .before .before .loop-test .taken) (p .3) (t .last .0) (t .ensures)
+    ordering-more (a .registers) (a .capacity) (a .starts .now) (a .store .now) (h .inv) (p .0)
+    (c .before .before .before .before .before .loop-test .taken) (p .3) (t .last .0) (t .ensures)
 
 same-length : tie.Need-same-length Inv-loop μ-loop
 same-length c = c .before .loop .inv .same

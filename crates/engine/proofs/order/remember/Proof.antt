@@ -35,7 +35,8 @@ loop-again c =
     let part = c .before .before .before .args .part .now in (
       omega arith,
       simp length-set (h .inv .1),
-      filled-more (λ k. getD part k 0) (h .old) (h .i) (getD part (h .i) 0) (omega (arith, h .inv .1, c .before .before .before .pre)) refl (h .inv .2),
+      filled-more (λ k. getD part k 0) (h .old) (h .i) (getD part (h .i) 0) (omega
+          (arith, h .inv .1, c .before .before .before .pre)) refl (h .inv .2),
     )
 
 same-length : tie.Need-same-length Inv-loop μ-loop

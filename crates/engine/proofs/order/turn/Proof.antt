@@ -42,7 +42,11 @@ returns-2 c =
     record {
       same = t .same;
       each = λ k l. t .each k l ∙ c .before .before .before .before .before .before .remember .ensures (wrapped size (a .start + k))
-          (wrapped-below size (a .start + k) (omega (arith, c .before .before .before .before .before .before .before .before .before .before .before .pre .0)));
+          (wrapped-below size (a .start + k) (omega (
+            arith,
+            c .before .before .before .before .before .before .before .before .before
+                .before .before .pre .0,
+          )));
     }
 
 pub turn-spec : {M : Type 1} → statement M

@@ -29,8 +29,10 @@ slice-aggregate-put-in-order c = search needs
 
 put-in-order-requires : tie.Need-put-in-order-requires
 put-in-order-requires c κs =
-    let a = c .before .before .before .before .before .before .before .before .before .before .before .before .before .before .before .args in
-    let p = c .before .before .before .before .before .before .before .before .before .before .before .before .before .before .before .pre in
+    let a = c .before .before .before .before .before .before .before .before .before .before .before .before .before .before .before
+    .args in
+    let p = c .before .before .before .before .before .before .before .before .before .before .before .before .before .before .before .pre
+    in
     let limits = memory-limits (a .capacity) (a .store .now) (a .lengths .now) (p .0) in
     let r = c .before .before .before .before .before .before .before .run-rings in
     let h = r .ensures .held in

@@ -93,26 +93,39 @@ sub-i-2 : tie.Need-sub-i-2 Inv-loop μ-loop
 sub-i-2 c = search needs
 
 shared-slice-read-perform : tie.Need-shared-slice-read-perform Inv-loop μ-loop
-shared-slice-read-perform c = omega (arith, c .before .before .before .before .before .before .before .before .before .before .before .before .before .before .pre .2 .count)
+shared-slice-read-perform c = omega (
+  arith,
+  c .before .before .before .before .before .before .before .before .before .before .before
+      .before .before .before .pre .2 .count,
+)
 
 mul-perform : tie.Need-mul-perform Inv-loop μ-loop
 mul-perform c = search needs
 
 shared-slice-read-perform-2 : tie.Need-shared-slice-read-perform-2 Inv-loop μ-loop
-shared-slice-read-perform-2 c = omega (arith, c .before .before .before .before .before .before .before .before .before .before .before .before .before .before .before .pre .2 .paired)
+shared-slice-read-perform-2 c = omega (
+  arith,
+  c .before .before .before .before .before .before .before .before .before .before .before
+      .before .before .before .before .pre .2 .paired,
+)
 
 cast-perform : tie.Need-cast-perform Inv-loop μ-loop
 cast-perform c =
-    let u = c .before .before .before .before .before .before .before .before .before .before .before .before .before .before .before .pre .2 in
+    let u = c .before .before .before .before .before .before .before .before .before .before .before .before .before .before .before .pre
+    .2 in
     let i = c .before .before .before .before .before .before .before .before .loop .here - 1000000 - 1 in
     omega (arith, u .each i (omega (arith, u .count)) .small)
 
 perform-requires : tie.Need-perform-requires Inv-loop μ-loop
 perform-requires c κs =
-    let a = c .before .before .before .before .before .before .before .before .before .before .before .before .before .before .before .args in
-    let u = c .before .before .before .before .before .before .before .before .before .before .before .before .before .before .before .pre .2 in
+    let a = c .before .before .before .before .before .before .before .before .before .before .before .before .before .before .before
+    .args in
+    let u = c .before .before .before .before .before .before .before .before .before .before .before .before .before .before .before .pre
+    .2 in
     let r = c .before .before .before .before .before .before .before .before .loop .inv .0 in
-    let limits = memory-limits (a .capacity) (a .store .now) (a .lengths .now) (c .before .before .before .before .before .before .before .before .before .before .before .before .before .before .before .pre .0) in
+    let limits = memory-limits (a .capacity) (a .store .now) (a .lengths .now)
+    (c .before .before .before .before .before .before .before .before .before .before .before .before .before .before .before .pre
+    .0) in
     let i = c .before .before .before .before .before .before .before .before .loop .here - 1000000 - 1 in (
       ring-sized (r .held) (omega (arith, limits .0, r .counts)) (limits .2),
       (r .registers, r .held),
@@ -141,16 +154,27 @@ same-length-9 c = search needs
 
 returns-3 : tie.Need-returns-3 Inv-loop μ-loop
 returns-3 c =
-    let h = c .before .before .before .before .before .before .before .before .before .before .before .before .before .before .before .before .before .before in
-    let a = c .before .before .before .before .before .before .before .before .before .before .before .before .before .before .before .before .before .before .before .before .before .before .before .before .before .args in
-    let u = c .before .before .before .before .before .before .before .before .before .before .before .before .before .before .before .before .before .before .before .before .before .before .before .before .before .pre .2 in
-    let al = c .before .before .before .before .before .before .before .before .before .before .before .before .before .before .before .before .before .before .before .allowance in
+    let h = c .before .before .before .before .before .before .before .before .before .before .before .before .before .before .before
+    .before .before .before in
+    let a = c .before .before .before .before .before .before .before .before .before .before .before .before .before .before .before
+    .before .before .before .before .before .before .before .before .before .before .args in
+    let u = c .before .before .before .before .before .before .before .before .before .before .before .before .before .before .before
+    .before .before .before .before .before .before .before .before .before .before .pre .2 in
+    let al = c .before .before .before .before .before .before .before .before .before .before .before .before .before .before .before
+    .before .before .before .before .allowance in
     let r = h .loop .inv .0 in
     let q = c .before .before .before .before .before .before .before .before .before .perform in
     rw (c .stopped3 .ensures)
     (running-full (a .capacity) (a .store .now) (a .lengths .now) (a .kinds .now) (a .operands .now) (a .from) (a .steps) (a .budget)
-    (al .result) r u (c .before .before .before .before .before .before .before .before .before .before .before .before .before .before .before .before .before .loop-test .taken) (c .before .before .before .before .before .before .before .before .before .before .before .before .before .before .before .before .if1 .left) (al .ensures)
-    (omega (arith, r .done, c .before .before .before .before .before .before .before .before .before .before .before .before .before .before .before .if2 .left))
+    (al .result) r u (c .before .before .before .before .before .before .before .before .before .before .before .before .before .before
+    .before .before .before .loop-test .taken) (c .before .before .before .before .before .before .before .before .before .before
+    .before .before .before .before .before .before .if1 .left) (al .ensures)
+    (omega (
+      arith,
+      r .done,
+      c .before .before .before .before .before .before .before .before .before .before .before .before .before
+          .before .before .if2 .left,
+    ))
     (λ i k o. subst
     (λ (x : Step). Performed (a .capacity) (r .registers) (h .loop .here) i x (q .last .0) (q .last .1 .0) (q .last .1 .1 .0))
     (c .before .enum-told .given .1)
@@ -164,15 +188,26 @@ loop-less c = search needs
 
 loop-again : tie.Need-loop-again Inv-loop μ-loop
 loop-again c =
-    let h = c .before .before .before .before .before .before .before .before .before .before .before .before .before .before .before .before .before .before in
-    let a = c .before .before .before .before .before .before .before .before .before .before .before .before .before .before .before .before .before .before .before .before .before .before .before .before .before .args in
-    let u = c .before .before .before .before .before .before .before .before .before .before .before .before .before .before .before .before .before .before .before .before .before .before .before .before .before .pre .2 in
-    let al = c .before .before .before .before .before .before .before .before .before .before .before .before .before .before .before .before .before .before .before .allowance in
+    let h = c .before .before .before .before .before .before .before .before .before .before .before .before .before .before .before
+    .before .before .before in
+    let a = c .before .before .before .before .before .before .before .before .before .before .before .before .before .before .before
+    .before .before .before .before .before .before .before .before .before .before .args in
+    let u = c .before .before .before .before .before .before .before .before .before .before .before .before .before .before .before
+    .before .before .before .before .before .before .before .before .before .before .pre .2 in
+    let al = c .before .before .before .before .before .before .before .before .before .before .before .before .before .before .before
+    .before .before .before .before .allowance in
     let r = h .loop .inv .0 in
     let q = c .before .before .before .before .before .before .before .before .before .perform in (
       running-step (a .capacity) (a .store .now) (a .lengths .now) (a .kinds .now) (a .operands .now) (a .from) (a .steps) (a .budget)
-          (al .result) r u (c .before .before .before .before .before .before .before .before .before .before .before .before .before .before .before .before .before .loop-test .taken) (c .before .before .before .before .before .before .before .before .before .before .before .before .before .before .before .before .if1 .left) (al .ensures)
-          (omega (arith, r .done, c .before .before .before .before .before .before .before .before .before .before .before .before .before .before .before .if2 .left))
+          (al .result) r u (c .before .before .before .before .before .before .before .before .before .before .before .before .before
+          .before .before .before .before .loop-test .taken) (c .before .before .before .before .before .before .before .before
+          .before .before .before .before .before .before .before .before .if1 .left) (al .ensures)
+          (omega (
+            arith,
+            r .done,
+            c .before .before .before .before .before .before .before .before .before .before .before .before
+                .before .before .before .if2 .left,
+          ))
           (c .before .there .given .0 .0)
           (λ i k o. subst
           (λ (x : Step). Performed (a .capacity) (r .registers) (h .loop .here) i x (q .last .0) (q .last .1 .0) (q .last .1 .1 .0))

@@ -80,7 +80,8 @@ stopped c =
     let n = is (c .before .before .before .before .before) in
     let first : 1 ≤ number-of (a .at .place) = omega (arith, n, c .before .before .before .before .if1 .left) in
     subst
-    (λ (o : Outcome State). Stopped (λ f. Held (a .m .capacity) f (c .run-ordered .last .0) (c .run-ordered .last .1 .0)) o (c .run-ordered .result))
+    (λ (o : Outcome State). Stopped (λ f. Held (a .m .capacity) f (c .run-ordered .last .0) (c .run-ordered .last .1 .0)) o
+    (c .run-ordered .result))
     (ap (λ (k : ℕ). run-from (a .kinds .now) (a .operands .now) (lent (a .m .capacity) (a .store .now) (a .lengths .now)) (bias + k)
     (a .at .steps) (a .budget)) n
     ∙ whole-is (a .m) (a .store .now) (a .lengths .now) (p .0) (a .kinds .now) (a .operands .now) (p .1) (a .at) (a .budget) first)

@@ -8,7 +8,8 @@ use Rattle.engine.proofs.store.append.Statement.{statement}
 use Rattle.engine.proofs.store.append.Tie as tie
 
 inside : (c : tie.After-wrapped)
-    → c .before .before .before .before .before .before .before .before .args .r * c .before .before .before .before .before .before .before .before .args .capacity
+    → c .before .before .before .before .before .before .before .before .args .r * c .before .before .before .before .before .before
+    .before .before .args .capacity
     + c .wrapped .result < length (c .before .before .before .before .before .before .before .before .args .store .now)
 inside c =
     let a = c .before .before .before .before .before .before .before .before .args in
@@ -31,10 +32,23 @@ mul-wrapped : tie.Need-mul-wrapped
 mul-wrapped c = search needs
 
 shared-slice-read-wrapped : tie.Need-shared-slice-read-wrapped
-shared-slice-read-wrapped c = omega (arith, c .before .before .before .before .before .before .before .pre .1, c .before .before .before .before .before .before .before .pre .2 .1 .enough)
+shared-slice-read-wrapped c = omega (
+  arith,
+  c .before .before .before .before .before .before .before .pre .1,
+  c .before .before .before
+      .before .before .before .before .pre .2 .1 .enough,
+)
 
 add-wrapped : tie.Need-add-wrapped
-add-wrapped c = omega (arith, c .before .before .before .before .before .before .before .pre .2 .1 .begins (c .before .before .before .before .before .before .before .args .r) (c .before .before .before .before .before .before .before .pre .1), c .before .before .before .before .before .before .before .pre .0 .symbols, c .before .if1 .taken)
+add-wrapped c = omega (
+  arith,
+  c .before .before .before .before .before .before .before .pre .2 .1 .begins
+      (c .before .before .before .before .before .before .before .args .r)
+      (c .before .before .before .before .before .before .before .pre .1),
+  c .before .before .before .before .before .before .before .pre .0
+      .symbols,
+  c .before .if1 .taken,
+)
 
 wrapped-requires : tie.Need-wrapped-requires
 wrapped-requires c κs = search needs
@@ -70,10 +84,13 @@ returns : tie.Need-returns
 returns c f x b h =
     let a = c .before .before .before .before .before .before .before .before .before .args in
     let n = c .before .before .before .before .wide .ensures in
-    rw (c .narrow .ensures, c .before .wrapped .ensures, n, b) (ring-append h (a .r) (c .before .before .before .before .before .before .before .before .before .pre .1) x (rw n at (c .before .before .before .if1 .taken)))
+    rw (c .narrow .ensures, c .before .wrapped .ensures, n, b) (ring-append h (a .r)
+    (c .before .before .before .before .before .before .before .before .before .pre .1) x (rw n at
+    (c .before .before .before .if1 .taken)))
 
 returns-2 : tie.Need-returns-2
-returns-2 c f x b h = ring-full h (c .before .before .before .before .before .before .args .r) (c .before .before .before .before .before .before .pre .1) x (rw (c .before .wide .ensures) at (c .if1 .left))
+returns-2 c f x b h = ring-full h (c .before .before .before .before .before .before .args .r)
+    (c .before .before .before .before .before .before .pre .1) x (rw (c .before .wide .ensures) at (c .if1 .left))
 
 pub append-spec : {M : Type 1} → statement M
 append-spec =

@@ -9,8 +9,10 @@ use Rattle.engine.proofs.store.delete_first.Statement.{statement}
 use Rattle.engine.proofs.store.delete_first.Tie as tie
 
 inside : (c : tie.After-slice-known5)
-    → c .before .before .before .before .before .before .before .args .r * c .before .before .before .before .before .before .before .args .capacity
-    + getD (c .before .before .before .before .before .before .before .args .starts .now) (c .before .before .before .before .before .before .before .args .r) 0
+    → c .before .before .before .before .before .before .before .args .r * c .before .before .before .before .before .before .before .args
+    .capacity
+    + getD (c .before .before .before .before .before .before .before .args .starts .now)
+    (c .before .before .before .before .before .before .before .args .r) 0
     < length (c .before .before .before .before .before .before .before .args .store .now)
 inside c =
     let a = c .before .before .before .before .before .before .before .args in
@@ -27,13 +29,19 @@ wide-requires : tie.Need-wide-requires
 wide-requires c κs = search needs
 
 returns : tie.Need-returns
-returns c f h = ring-empty h (c .before .before .before .before .before .before .args .r) (c .before .before .before .before .before .before .pre .1) (sym (c .before .wide .ensures) ∙ c .if1 .taken)
+returns c f h = ring-empty h (c .before .before .before .before .before .before .args .r)
+    (c .before .before .before .before .before .before .pre .1) (sym (c .before .wide .ensures) ∙ c .if1 .taken)
 
 mul-start : tie.Need-mul-start
 mul-start c = search needs
 
 slice-read-start : tie.Need-slice-read-start
-slice-read-start c = omega (arith, c .before .before .before .before .before .before .before .pre .1, c .before .before .before .before .before .before .before .pre .2 .1 .enough)
+slice-read-start c = omega (
+  arith,
+  c .before .before .before .before .before .before .before .pre .1,
+  c .before .before .before .before
+      .before .before .before .pre .2 .1 .enough,
+)
 
 mul-at : tie.Need-mul-at
 mul-at c = omega (arith, inside c)
@@ -48,7 +56,14 @@ slice-write-store : tie.Need-slice-write-store
 slice-write-store c = inside (c .before)
 
 add-wrapped : tie.Need-add-wrapped
-add-wrapped c = omega (arith, c .before .before .before .before .before .before .before .before .pre .2 .1 .begins (c .before .before .before .before .before .before .before .before .args .r) (c .before .before .before .before .before .before .before .before .pre .1), c .before .before .before .before .before .before .before .before .pre .0 .symbols)
+add-wrapped c = omega (
+  arith,
+  c .before .before .before .before .before .before .before .before .pre .2 .1 .begins
+      (c .before .before .before .before .before .before .before .before .args .r)
+      (c .before .before .before .before .before .before .before .before .pre .1),
+  c .before .before .before .before .before .before .before
+      .before .pre .0 .symbols,
+)
 
 wrapped-requires : tie.Need-wrapped-requires
 wrapped-requires c κs = search needs
@@ -57,13 +72,27 @@ mul-starts : tie.Need-mul-starts
 mul-starts c = search needs
 
 slice-write-starts : tie.Need-slice-write-starts
-slice-write-starts c = omega (arith, c .before .before .before .before .before .before .before .before .before .pre .1, c .before .before .before .before .before .before .before .before .before .pre .2 .1 .enough)
+slice-write-starts c = omega (
+  arith,
+  c .before .before .before .before .before .before .before .before .before .pre .1,
+  c .before .before
+      .before .before .before .before .before .before .before .pre .2 .1 .enough,
+)
 
 sub-narrow : tie.Need-sub-narrow
 sub-narrow c = search needs
 
 narrow-requires : tie.Need-narrow-requires
-narrow-requires c κs = omega (arith, c .before .before .before .before .wide .ensures, ring-within (c .before .before .before .before .before .before .before .before .before .pre .2 .1) (c .before .before .before .before .before .before .before .before .before .args .r) (c .before .before .before .before .before .before .before .before .before .pre .1), c .before .before .before .before .before .before .before .before .before .pre .0 .symbols)
+narrow-requires c κs = omega (
+  arith,
+  c .before .before .before .before .wide .ensures,
+  ring-within
+      (c .before .before .before .before .before .before .before .before .before .pre .2 .1)
+      (c .before .before .before .before .before .before .before .before .before .args .r)
+      (c .before .before .before .before .before .before .before .before .before .pre .1),
+  c .before .before .before .before .before .before
+      .before .before .before .pre .0 .symbols,
+)
 
 mul-lengths : tie.Need-mul-lengths
 mul-lengths c = search needs
@@ -85,7 +114,8 @@ returns-2 c f h =
     let a = c .before .before .before .before .before .before .before .before .before .before .args in
     let n = c .before .before .before .before .before .wide .ensures in
     let some : 0 < getD (a .lengths .now) (a .r) 0 = omega (arith, n, c .before .before .before .before .if1 .left) in
-    rw (c .narrow .ensures, c .before .wrapped .ensures, n) (ring-delete h (a .r) (c .before .before .before .before .before .before .before .before .before .before .pre .1) some)
+    rw (c .narrow .ensures, c .before .wrapped .ensures, n) (ring-delete h (a .r)
+    (c .before .before .before .before .before .before .before .before .before .before .pre .1) some)
 
 pub delete-first-spec : {M : Type 1} → statement M
 delete-first-spec =

@@ -38,7 +38,11 @@ loop-again c =
     ⊎-elim
     (λ w. (
       search needs,
-      rw (w .2) (l .inv .1 ∙ all-fails is-symbol p (l .i) (l .ok) (search needs) (rw (ne-eqb _ 49 (w .0 .taken), ne-eqb _ 35 (w .1 .taken)))),
+      rw (w .2) (l .inv .1 ∙ all-fails is-symbol p (l .i) (l .ok) (search needs) (rw (
+        ne-eqb _ 49 (w .0 .taken),
+        ne-eqb _ 35
+            (w .1 .taken),
+      ))),
     ))
     (λ v. ⊎-elim
     (λ w. (

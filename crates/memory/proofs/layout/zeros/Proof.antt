@@ -36,7 +36,11 @@ loop-again c =
     let p = c .before .before .before .before .args .part .now in
     ⊎-elim
     (λ w. (search needs, rw (w .1) (l .inv .1 ∙ all-fails (eqb 0) p (l .i) (l .ok) (search needs) (ne-eqb 0 _ (λ e. w .0 .taken (sym e))))))
-    (λ w. (search needs, rw (w .1) (l .inv .1 ∙ ap (λ (b : Bool). l .ok && b) (all-next (eqb 0) p (l .i) (search needs) (eq-eqb 0 _ (sym (w .0 .left)))))))
+    (λ w. (
+      search needs,
+      rw (w .1) (l .inv .1 ∙ ap (λ (b : Bool). l .ok && b) (all-next (eqb 0) p (l .i) (search needs) (eq-eqb 0 _ (sym
+          (w .0 .left))))),
+    ))
     (c .if1 .came)
 
 returns : tie.Need-returns Inv-loop μ-loop

@@ -2,7 +2,7 @@
 use Prim.Native.Nat.{_-_, _≤_}
 use native.Mathlib.Omega.{arith}
 use lib.ListN.{length}
-use Rattle.text.proofs.Puts.{put-length}
+use Rattle.output.proofs.Puts.{put-length}
 use Rattle.program.proofs.CommandsLeft.{TextFrom, text-start, text-more, text-whole}
 use Rattle.program.proofs.spell.put_text.Statement.{statement}
 use Rattle.program.proofs.spell.put_text.Tie as tie

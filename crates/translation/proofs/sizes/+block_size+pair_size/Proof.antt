@@ -1,13 +1,17 @@
 -- `block_size` and `pair_size` meet their contracts. A block's loop has counted what it passed; a pair's body begins on a later line, so
 -- the measures fall.
 use mathlib.Core.Path.{sym, ap, _∙_}
-use Prim.Native.Nat.{ℕ, _<_, _+_, _-_, _*_}
+use Prim.Native.Nat.{ℕ, _<_, _≤_, _+_, _-_, _*_}
 use native.Mathlib.Omega.{arith}
+use lib.ListN.{length, length-set}
 use borrow.Fn.Kinds.{In}
 use borrow.Fn.PlainCycle.{Measures, is, falls, and}
 use Rattle.translation.proofs.Sites.{bounds}
 use Rattle.translation.proofs.Walks.{plain-at, pair-at, here}
 use Rattle.translation.proofs.Counting.{Counting, counting-none, counting-more, counting-steps, counting-all}
+use Rattle.translation.specs.Pieces.{numbers-at}
+use Rattle.translation.specs.Sites.{Noting}
+use Rattle.translation.proofs.Noting.{noting-none, noting-then, noting-plain, noting-pair}
 use Rattle.translation.proofs.Counting.{plain-asks, plain-counts, pair-asks, pair-counts}
 use Rattle.translation.proofs.sizes.block_size.Reads as block-reads
 use Rattle.translation.proofs.sizes.block_size.Kinds as block-kinds
@@ -18,6 +22,7 @@ use Rattle.translation.proofs.sizes.+block_size+pair_size.Lts-pair_size
 use Rattle.translation.proofs.lines.begins.Reads as begins
 use Rattle.translation.proofs.lines.line_at.Reads as line-at
 use Rattle.translation.proofs.lines.deeper.Reads as deeper
+use Rattle.translation.proofs.bodies.note.Reads as note
 use Rattle.translation.proofs.sizes.around.Reads as around
 use Rattle.translation.proofs.sizes.joined.Reads as joined
 use Rattle.translation.proofs.sizes.line_size.Reads as line-size
@@ -25,31 +30,32 @@ use Rattle.translation.proofs.sizes.+block_size+pair_size.{statement}
 use Rattle.translation.proofs.sizes.+block_size+pair_size.Tie.{close}
 
 -- By the lines left
-abbrev μ-block : Measures 1 block-kinds.ps ℕ
+abbrev μ-block : Measures 2 block-kinds.ps ℕ
 μ-block κs a = 2 * (a .1 .0 - a .1 .1 .1 .1 .0) + 1
 
-abbrev μ-pair : Measures 1 pair-kinds.ps ℕ
+abbrev μ-pair : Measures 2 pair-kinds.ps ℕ
 μ-pair κs a = 2 * (a .1 .0 - a .1 .1 .1 .1 .0)
 
 abbrev Inv-loop : block.InvT-loop
-Inv-loop list lines variables depth at sum₀ sum = Counting list lines variables depth at sum
+Inv-loop list lines variables depth at bodies₀ sum₀ bodies sum =
+    Counting list lines variables depth at sum × Noting list variables at (sum .next) bodies₀ bodies
 
 abbrev μ-loop : block.MeasureT-loop
-μ-loop list lines variables depth at sum₀ sum = lines - sum .next
+μ-loop list lines variables depth at bodies₀ sum₀ bodies sum = lines - sum .next
 
 module _ (t : ℕ) where
   -- What each may assume where its measure is t, and where it is less
-  abbrev block-at : In 1 block-kinds.ps
-  block-at = and 1 block-kinds.ps (is 1 block-kinds.ps μ-block t) block-reads.Pre
+  abbrev block-at : In 2 block-kinds.ps
+  block-at = and 2 block-kinds.ps (is 2 block-kinds.ps μ-block t) block-reads.Pre
 
-  abbrev block-below : In 1 block-kinds.ps
-  block-below = and 1 block-kinds.ps (falls 1 block-kinds.ps _<_ μ-block t) block-reads.Pre
+  abbrev block-below : In 2 block-kinds.ps
+  block-below = and 2 block-kinds.ps (falls 2 block-kinds.ps _<_ μ-block t) block-reads.Pre
 
-  abbrev pair-here : In 1 pair-kinds.ps
-  pair-here = and 1 pair-kinds.ps (is 1 pair-kinds.ps μ-pair t) pair-reads.Pre
+  abbrev pair-here : In 2 pair-kinds.ps
+  pair-here = and 2 pair-kinds.ps (is 2 pair-kinds.ps μ-pair t) pair-reads.Pre
 
-  abbrev pair-below : In 1 pair-kinds.ps
-  pair-below = and 1 pair-kinds.ps (falls 1 pair-kinds.ps _<_ μ-pair t) pair-reads.Pre
+  abbrev pair-below : In 2 pair-kinds.ps
+  pair-below = and 2 pair-kinds.ps (falls 2 pair-kinds.ps _<_ μ-pair t) pair-reads.Pre
 
   -- What they call
   abbrev in-block : block.Claims
@@ -65,91 +71,135 @@ module _ (t : ℕ) where
     deeper.Learnt,
     block-below,
     block-reads.Post,
+    note.Asked,
+    note.Learnt,
     around.Asked,
     around.Learnt,
   )
 
   block-holds : block.Need-loop-holds in-block block-at block-reads.Post Inv-loop μ-loop
-  block-holds c = counting-none _ _ _ _ _ (c .before .pre .1)
+  block-holds c = (counting-none _ _ _ _ _ (c .before .before .pre .1 .0), noting-none _ _ _ _)
 
   block-begins : block.Need-begins-requires in-block block-at block-reads.Post Inv-loop μ-loop
-  block-begins c κs = c .loop .inv .passed .site .known .accepts
+  block-begins c κs = c .loop .inv .0 .passed .site .known .accepts
 
   block-pair : block.Need-pair-size-requires in-block block-at block-reads.Post Inv-loop μ-loop
   block-pair c κs =
-      let p : _ = c .before .before .loop .inv .passed in
-      (omega (arith, p .onward), (p .site, sym (c .before .begins .ensures) ∙ c .if1 .taken))
+      let l : _ = c .before .before .before in
+      let p : _ = l .loop .inv .0 .passed in
+      let goes : _ = sym (c .before .before .begins .ensures) ∙ c .before .if1 .taken in
+      (omega (arith, p .onward), (p .site, goes, omega (arith, l .loop .inv .1 .sized, l .before .before .before .pre .1 .1)))
 
   block-joined : block.Need-joined-requires in-block block-at block-reads.Post Inv-loop μ-loop
   block-joined c κs =
-      let l : _ = c .before .before .before in
-      let goes : _ = sym (c .before .before .begins .ensures) ∙ c .before .if1 .taken in
-      let s : _ = counting-steps _ _ _ _ _ _ _ (l .before .before .pre .1) (l .loop .inv) goes (c .pair-size .ensures) in
+      let p : _ = c .before .before in
+      let l : _ = p .before .before .before .before in
+      let goes : _ = sym (p .before .before .before .begins .ensures) ∙ p .before .before .if1 .taken in
+      let at : _ = l .before .before .before .pre .1 .0 in
+      let s : _ = counting-steps _ _ _ _ _ _ _ at (l .loop .inv .0) goes (p .pair-size .ensures .0) in
       (s .instructions, s .symbols)
 
   block-less : block.Need-loop-less in-block block-at block-reads.Post Inv-loop μ-loop
   block-less c =
-      let l : _ = c .before .before .before .before in
-      let goes : _ = sym (c .before .before .before .begins .ensures) ∙ c .before .before .if1 .taken in
-      let s : _ = counting-steps _ _ _ _ _ _ _ (l .before .before .pre .1) (l .loop .inv) goes (c .before .pair-size .ensures) in
+      let p : _ = c .before .before .before in
+      let l : _ = p .before .before .before .before in
+      let goes : _ = sym (p .before .before .before .begins .ensures) ∙ p .before .before .if1 .taken in
+      let at : _ = l .before .before .before .pre .1 .0 in
+      let s : _ = counting-steps _ _ _ _ _ _ _ at (l .loop .inv .0) goes (p .pair-size .ensures .0) in
       omega (arith, s .below, s .onward, ap (λ e. e .next) (c .joined .ensures))
 
   block-again : block.Need-loop-again in-block block-at block-reads.Post Inv-loop μ-loop
   block-again c =
-      let l : _ = c .before .before .before .before in
-      rw (c .joined .ensures) (counting-more _ _ _ _ _ _ _ (l .loop .inv) (c .before .pair-size .ensures))
+      let p : _ = c .before .before .before in
+      let inv : _ = p .before .before .before .before .loop .inv in
+      let notes : _ = noting-then _ _ (inv .0 .passed .onward) (inv .1) (p .pair-size .ensures .1) in
+      rw (c .joined .ensures) (counting-more _ _ _ _ _ _ _ (inv .0) (p .pair-size .ensures .0), notes)
+
+  block-length : block.Need-same-length in-block block-at block-reads.Post Inv-loop μ-loop
+  block-length c = c .before .before .loop .inv .1 .sized
 
   block-returns : block.Need-returns in-block block-at block-reads.Post Inv-loop μ-loop
   block-returns c =
       let goes : _ = sym (c .before .begins .ensures) ∙ c .if1 .left in
-      counting-all _ _ _ _ _ _ (c .before .before .loop .inv) goes
+      let inv : _ = c .before .before .loop .inv in
+      (counting-all _ _ _ _ _ _ (inv .0) goes, inv .1, goes)
 
   pair-line : pair.Need-line-at-requires in-pair pair-here pair-reads.Post
-  pair-line c κs = here _ _ _ _ _ (c .before .pre .1 .0) (c .before .pre .1 .1) .numbers
+  pair-line c κs = here _ _ _ _ _ (c .before .before .pre .1 .0) (c .before .before .pre .1 .1) .numbers
 
   pair-line-size : pair.Need-line-size-requires in-pair pair-here pair-reads.Post
   pair-line-size c κs =
       let l : _ = c .before .before in
-      let q : _ = l .before .before .pre .1 in
+      let q : _ = l .before .before .before .pre .1 in
       plain-asks _ _ _ _ _ (q .0) (q .1) _ (plain-at _ _ _ _ _ (q .0) (q .1) _ (l .line-at .ensures) (c .if1 .taken))
 
   pair-deeper : pair.Need-deeper-requires in-pair pair-here pair-reads.Post
-  pair-deeper c κs = omega (arith, bounds _ _ _ _ _ (c .before .before .before .before .pre .1 .0) .shallow)
+  pair-deeper c κs = omega (arith, bounds _ _ _ _ _ (c .before .before .before .before .before .pre .1 .0) .shallow)
 
   pair-next : pair.Need-add-block-size in-pair pair-here pair-reads.Post
   pair-next c =
-      let q : _ = c .before .before .before .before .before .pre .1 in
+      let q : _ = c .before .before .before .before .before .before .pre .1 in
       omega (arith, here _ _ _ _ _ (q .0) (q .1) .below)
 
   pair-body : pair.Need-block-size-requires in-pair pair-here pair-reads.Post
   pair-body c κs =
-      let l : _ = c .before .before .before in
-      let q : _ = l .before .before .pre .1 in
-      let p : _ = pair-at _ _ _ _ _ (q .0) (q .1) _ (l .line-at .ensures) (c .before .if1 .left) in
-      (omega (arith, here _ _ _ _ _ (q .0) (q .1) .below), rw (c .deeper .ensures) (p .site))
+      let d : _ = c .before in
+      let l : _ = d .before .before .before in
+      let q : _ = l .before .before .before .pre .1 in
+      let p : _ = pair-at _ _ _ _ _ (q .0) (q .1) _ (l .line-at .ensures) (d .before .if1 .left) in
+      (omega (arith, here _ _ _ _ _ (q .0) (q .1) .below), (rw (d .deeper .ensures) (p .site), q .2))
+
+  pair-note : pair.Need-note-requires in-pair pair-here pair-reads.Post
+  pair-note c κs =
+      let b : _ = c .before .before .before in
+      let d : _ = b .before .before in
+      let l : _ = d .before .before .before in
+      let q : _ = l .before .before .before .pre .1 in
+      let p : _ = pair-at _ _ _ _ _ (q .0) (q .1) _ (l .line-at .ensures) (d .before .if1 .left) in
+      let room : _ = pair-asks _ _ _ _ _ (q .0) (q .1) _ p _ (d .deeper .ensures) _ (b .block-size .ensures .0) .2 in
+      (omega (arith, here _ _ _ _ _ (q .0) (q .1) .below, q .2, b .block-size .ensures .1 .sized), room .instructions)
 
   pair-around : pair.Need-around-requires in-pair pair-here pair-reads.Post
   pair-around c κs =
-      let d : _ = c .before in
+      let b : _ = c .before .before .before .before .before .before in
+      let d : _ = b .before .before in
       let l : _ = d .before .before .before in
-      let q : _ = l .before .before .pre .1 in
+      let q : _ = l .before .before .before .pre .1 in
       let p : _ = pair-at _ _ _ _ _ (q .0) (q .1) _ (l .line-at .ensures) (d .before .if1 .left) in
-      pair-asks _ _ _ _ _ (q .0) (q .1) _ p _ (d .deeper .ensures) _ (c .block-size .ensures)
+      pair-asks _ _ _ _ _ (q .0) (q .1) _ p _ (d .deeper .ensures) _ (b .block-size .ensures .0)
 
   pair-returns : pair.Need-returns in-pair pair-here pair-reads.Post
   pair-returns c =
       let l : _ = c .before .before .before in
-      let q : _ = l .before .before .pre .1 in
+      let q : _ = l .before .before .before .pre .1 in
       let p : _ = plain-at _ _ _ _ _ (q .0) (q .1) _ (l .line-at .ensures) (c .before .if1 .taken) in
-      plain-counts _ _ _ _ _ (q .0) (q .1) _ p _ (c .line-size .ensures)
+      let a : _ = l .before .before .before .args in
+      let low : (numbers-at (a .list .now) (a .at)) .kind ≤ 3 =
+      omega (arith, ap (λ x. x .kind) (l .line-at .ensures), c .before .if1 .taken) in
+      let counts : _ = plain-counts _ _ _ _ _ (q .0) (q .1) _ p _ (c .line-size .ensures) in
+      (counts, rw (c .line-size .ensures .ended) (noting-plain _ _ _ _ low))
+
+  pair-length : pair.Need-same-length in-pair pair-here pair-reads.Post
+  pair-length c =
+      let n : _ = c .before .before .before in
+      let sized : _ = n .before .before .before .before .block-size .ensures .1 .sized in
+      (simp length-set at (ap length (n .note .ensures))) ∙ sized
 
   pair-returns-2 : pair.Need-returns-2 in-pair pair-here pair-reads.Post
   pair-returns-2 c =
-      let d : _ = c .before .before in
+      let n : _ = c .before .before .before in
+      let b : _ = n .before .before .before .before in
+      let d : _ = b .before .before in
       let l : _ = d .before .before .before in
-      let q : _ = l .before .before .pre .1 in
+      let q : _ = l .before .before .before .pre .1 in
+      let h : _ = here _ _ _ _ _ (q .0) (q .1) in
       let p : _ = pair-at _ _ _ _ _ (q .0) (q .1) _ (l .line-at .ensures) (d .before .if1 .left) in
-      pair-counts _ _ _ _ _ (q .0) (q .1) _ p _ (d .deeper .ensures) _ (c .before .block-size .ensures) _ (c .around .ensures)
+      let e : _ = b .block-size .ensures in
+      let notes : _ = noting-pair _ _ _ _ _ _ _ _ (omega (arith, h .below, q .2)) (e .0 .instructions)
+      (omega (arith, e .0 .ended)) (e .2) (e .1) in (
+        pair-counts _ _ _ _ _ (q .0) (q .1) _ p _ (d .deeper .ensures) _ (e .0) _ (c .around .ensures),
+        rw (c .around .ensures .ended, n .note .ensures) notes,
+      )
 
 pub +block-size+pair-size-spec : {M : Type 1} → statement M
 +block-size+pair-size-spec =
@@ -168,6 +218,7 @@ pub +block-size+pair-size-spec : {M : Type 1} → statement M
     (block-joined t)
     (block-less t)
     (block-again t)
+    (block-length t)
     (block-returns t))
     (λ t. pair.spec
     (in-pair t)
@@ -178,6 +229,8 @@ pub +block-size+pair-size-spec : {M : Type 1} → statement M
     (pair-deeper t)
     (pair-next t)
     (pair-body t)
+    (pair-note t)
     (pair-around t)
     (pair-returns t)
+    (pair-length t)
     (pair-returns-2 t))

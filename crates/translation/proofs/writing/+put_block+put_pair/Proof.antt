@@ -9,7 +9,8 @@ use borrow.Fn.PlainCycle.{Measures, is, falls, and}
 use Rattle.translation.proofs.Sites.{bounds}
 use Rattle.translation.proofs.Walks.{plain-at, pair-at}
 use Rattle.translation.proofs.Walks as W
-use Rattle.text.proofs.Puts.{put-length}
+use Rattle.translation.proofs.Noting.{noted-counts}
+use Rattle.output.proofs.Puts.{put-length}
 use Rattle.translation.proofs.Written.{Writing, writing-none, writing-more, writing-all}
 use Rattle.translation.proofs.Written.{plain-asks, plain-writes, front-asks, back-asks, pair-writes}
 use Rattle.translation.proofs.writing.put_block.Reads as block-reads
@@ -21,7 +22,7 @@ use Rattle.translation.proofs.writing.+put_block+put_pair.Lts-put_pair 
 use Rattle.translation.proofs.lines.begins.Reads as begins
 use Rattle.translation.proofs.lines.line_at.Reads as line-at
 use Rattle.translation.proofs.lines.deeper.Reads as deeper
-use Rattle.translation.proofs.sizes.block_size.Reads as block-size
+use Rattle.translation.proofs.bodies.noted.Reads as noted
 use Rattle.translation.proofs.writing.put_after.Reads as put-after
 use Rattle.translation.proofs.pieces.before_body.Reads as before-body
 use Rattle.translation.proofs.writing.put_line.Reads as put-line
@@ -29,32 +30,32 @@ use Rattle.translation.proofs.writing.+put_block+put_pair.{statement}
 use Rattle.translation.proofs.writing.+put_block+put_pair.Tie.{close}
 
 -- By the lines left
-abbrev μ-block : Measures 2 block-kinds.ps ℕ
+abbrev μ-block : Measures 3 block-kinds.ps ℕ
 μ-block κs a = 2 * (a .1 .0 - a .1 .1 .1 .1 .0) + 1
 
-abbrev μ-pair : Measures 2 pair-kinds.ps ℕ
+abbrev μ-pair : Measures 3 pair-kinds.ps ℕ
 μ-pair κs a = 2 * (a .1 .0 - a .1 .1 .1 .1 .0)
 
 abbrev Inv-loop : block.InvT-loop
-Inv-loop list lines variables depth at out₀ place next₀ here₀ out next here =
+Inv-loop list lines variables depth at bodies out₀ place next₀ here₀ out next here =
     Writing list lines variables depth at place out₀ out next here
 
 abbrev μ-loop : block.MeasureT-loop
-μ-loop list lines variables depth at out₀ place next₀ here₀ out next here = lines - next
+μ-loop list lines variables depth at bodies out₀ place next₀ here₀ out next here = lines - next
 
 module _ (t : ℕ) where
   -- What each may assume where its measure is t, and where it is less
-  abbrev block-at : In 2 block-kinds.ps
-  block-at = and 2 block-kinds.ps (is 2 block-kinds.ps μ-block t) block-reads.Pre
+  abbrev block-at : In 3 block-kinds.ps
+  block-at = and 3 block-kinds.ps (is 3 block-kinds.ps μ-block t) block-reads.Pre
 
-  abbrev block-below : In 2 block-kinds.ps
-  block-below = and 2 block-kinds.ps (falls 2 block-kinds.ps _<_ μ-block t) block-reads.Pre
+  abbrev block-below : In 3 block-kinds.ps
+  block-below = and 3 block-kinds.ps (falls 3 block-kinds.ps _<_ μ-block t) block-reads.Pre
 
-  abbrev pair-here : In 2 pair-kinds.ps
-  pair-here = and 2 pair-kinds.ps (is 2 pair-kinds.ps μ-pair t) pair-reads.Pre
+  abbrev pair-here : In 3 pair-kinds.ps
+  pair-here = and 3 pair-kinds.ps (is 3 pair-kinds.ps μ-pair t) pair-reads.Pre
 
-  abbrev pair-below : In 2 pair-kinds.ps
-  pair-below = and 2 pair-kinds.ps (falls 2 pair-kinds.ps _<_ μ-pair t) pair-reads.Pre
+  abbrev pair-below : In 3 pair-kinds.ps
+  pair-below = and 3 pair-kinds.ps (falls 3 pair-kinds.ps _<_ μ-pair t) pair-reads.Pre
 
   -- What they call
   abbrev in-block : block.Claims
@@ -68,8 +69,8 @@ module _ (t : ℕ) where
     put-line.Learnt,
     deeper.Asked,
     deeper.Learnt,
-    block-size.Asked,
-    block-size.Learnt,
+    noted.Asked,
+    noted.Learnt,
     before-body.Asked,
     before-body.Learnt,
     block-below,
@@ -79,7 +80,7 @@ module _ (t : ℕ) where
   )
 
   block-holds : block.Need-loop-holds in-block block-at block-reads.Post Inv-loop μ-loop
-  block-holds c = writing-none _ _ _ _ _ _ _ (omega arith) (omega arith) (c .before .before .pre .1)
+  block-holds c = writing-none _ _ _ _ _ _ _ (omega arith) (omega arith) (c .before .before .before .pre .1 .0)
 
   block-begins : block.Need-begins-requires in-block block-at block-reads.Post Inv-loop μ-loop
   block-begins c κs = c .loop .inv .passed .site .known .accepts
@@ -87,7 +88,8 @@ module _ (t : ℕ) where
   block-pair : block.Need-put-pair-requires in-block block-at block-reads.Post Inv-loop μ-loop
   block-pair c κs =
       let inv : _ = c .before .before .before .loop .inv in
-      (omega (arith, inv .passed .onward), (inv .passed .site, sym (c .before .before .begins .ensures) ∙ c .before .if1 .taken))
+      let goes : _ = sym (c .before .before .begins .ensures) ∙ c .before .if1 .taken in
+      (omega (arith, inv .passed .onward), (inv .passed .site, goes, c .before .before .before .before .before .before .before .pre .1 .1))
 
   block-less : block.Need-loop-less in-block block-at block-reads.Post Inv-loop μ-loop
   block-less c =
@@ -112,57 +114,57 @@ module _ (t : ℕ) where
 
   pair-line : pair.Need-line-at-requires in-pair pair-here pair-reads.Post
   pair-line c κs =
-      let q : _ = c .before .before .pre .1 in
+      let q : _ = c .before .before .before .pre .1 in
       W.here _ _ _ _ _ (q .0) (q .1) .numbers
 
   pair-put-line : pair.Need-put-line-requires in-pair pair-here pair-reads.Post
   pair-put-line c κs =
       let l : _ = c .before .before .before in
-      let q : _ = l .before .before .before .pre .1 in
+      let q : _ = l .before .before .before .before .pre .1 in
       let p : _ = plain-at _ _ _ _ _ (q .0) (q .1) _ (l .line-at .ensures) (c .before .if1 .taken) in
       plain-asks _ _ _ _ _ (q .0) (q .1) _ p
 
   pair-deeper : pair.Need-deeper-requires in-pair pair-here pair-reads.Post
-  pair-deeper c κs = omega (arith, bounds _ _ _ _ _ (c .before .before .before .before .before .pre .1 .0) .shallow)
+  pair-deeper c κs = omega (arith, bounds _ _ _ _ _ (c .before .before .before .before .before .before .pre .1 .0) .shallow)
 
   pair-next : pair.Need-add-first in-pair pair-here pair-reads.Post
   pair-next c =
-      let q : _ = c .before .before .before .before .before .before .pre .1 in
+      let q : _ = c .before .before .before .before .before .before .before .pre .1 in
       omega (arith, W.here _ _ _ _ _ (q .0) (q .1) .below)
 
-  pair-size : pair.Need-block-size-requires in-pair pair-here pair-reads.Post
-  pair-size c κs =
-      let l : _ = c .before .before .before in
-      let q : _ = l .before .before .before .pre .1 in
-      let p : _ = pair-at _ _ _ _ _ (q .0) (q .1) _ (l .line-at .ensures) (c .before .if1 .left) in
-      rw (c .deeper .ensures) (p .site)
+  pair-noted : pair.Need-noted-requires in-pair pair-here pair-reads.Post
+  pair-noted c κs =
+      let q : _ = c .before .before .before .before .before .before .before .pre .1 in
+      omega (arith, W.here _ _ _ _ _ (q .0) (q .1) .below, q .2 .room)
 
   pair-front : pair.Need-before-body-requires in-pair pair-here pair-reads.Post
   pair-front c κs =
-      let z : _ = c .before in
-      let d : _ = z .before in
+      let d : _ = c .before .before in
       let l : _ = d .before .before .before in
-      let q : _ = l .before .before .before .pre .1 in
+      let q : _ = l .before .before .before .before .pre .1 in
       let p : _ = pair-at _ _ _ _ _ (q .0) (q .1) _ (l .line-at .ensures) (d .before .if1 .left) in
-      front-asks _ _ _ _ _ (q .0) (q .1) _ p _ (d .deeper .ensures) _ (z .block-size .ensures)
+      let low : _ = W.here _ _ _ _ _ (q .0) (q .1) .below in
+      let n : _ = noted-counts _ _ _ _ (q .2) _ _ _ _ low (q .1) (l .line-at .ensures) (d .before .if1 .left) (c .before .noted .ensures) in
+      front-asks _ _ _ _ _ (q .0) (q .1) _ p _ (d .deeper .ensures) _ n
 
   pair-body : pair.Need-put-block-requires in-pair pair-here pair-reads.Post
   pair-body c κs =
       let d : _ = c .before .before .before .before .before .before in
       let l : _ = d .before .before .before in
-      let q : _ = l .before .before .before .pre .1 in
+      let q : _ = l .before .before .before .before .pre .1 in
       let p : _ = pair-at _ _ _ _ _ (q .0) (q .1) _ (l .line-at .ensures) (d .before .if1 .left) in
-      (omega (arith, W.here _ _ _ _ _ (q .0) (q .1) .below), rw (d .deeper .ensures) (p .site))
+      (omega (arith, W.here _ _ _ _ _ (q .0) (q .1) .below), (rw (d .deeper .ensures) (p .site), q .2))
 
   pair-back : pair.Need-put-after-requires in-pair pair-here pair-reads.Post
   pair-back c κs =
-      let b : _ = c .before .before .before in
-      let z : _ = b .before .before .before .before .before .before in
+      let z : _ = c .before .before .before .before .before .before .before .before .before in
       let d : _ = z .before in
       let l : _ = d .before .before .before in
-      let q : _ = l .before .before .before .pre .1 in
+      let q : _ = l .before .before .before .before .pre .1 in
       let p : _ = pair-at _ _ _ _ _ (q .0) (q .1) _ (l .line-at .ensures) (d .before .if1 .left) in
-      back-asks _ _ _ _ _ (q .0) (q .1) _ p _ (d .deeper .ensures) _ (z .block-size .ensures) (b .put-block .ensures .ended)
+      let low : _ = W.here _ _ _ _ _ (q .0) (q .1) .below in
+      let n : _ = noted-counts _ _ _ _ (q .2) _ _ _ _ low (q .1) (l .line-at .ensures) (d .before .if1 .left) (z .noted .ensures) in
+      back-asks _ _ _ _ _ (q .0) (q .1) _ p _ (d .deeper .ensures) _ n (c .before .before .before .put-block .ensures .ended)
 
   pair-length : pair.Need-same-length in-pair pair-here pair-reads.Post
   pair-length c = search needs
@@ -171,7 +173,7 @@ module _ (t : ℕ) where
   pair-returns c =
       let w : _ = c .before .before in
       let l : _ = w .before .before .before .before in
-      let q : _ = l .before .before .before .pre .1 in
+      let q : _ = l .before .before .before .before .pre .1 in
       let p : _ = plain-at _ _ _ _ _ (q .0) (q .1) _ (l .line-at .ensures) (w .before .before .if1 .taken) in
       plain-writes _ _ _ _ _ (q .0) (q .1) _ p _ _ _ _ (w .put-line .ensures)
 
@@ -186,9 +188,11 @@ module _ (t : ℕ) where
       let z : _ = f .before .before in
       let d : _ = z .before in
       let l : _ = d .before .before .before in
-      let q : _ = l .before .before .before .pre .1 in
+      let q : _ = l .before .before .before .before .pre .1 in
       let p : _ = pair-at _ _ _ _ _ (q .0) (q .1) _ (l .line-at .ensures) (d .before .if1 .left) in
-      pair-writes _ _ _ _ _ (q .0) (q .1) _ p _ (d .deeper .ensures) _ (z .block-size .ensures) _ _ _ _ _ _ _ _
+      let low : _ = W.here _ _ _ _ _ (q .0) (q .1) .below in
+      let n : _ = noted-counts _ _ _ _ (q .2) _ _ _ _ low (q .1) (l .line-at .ensures) (d .before .if1 .left) (z .noted .ensures) in
+      pair-writes _ _ _ _ _ (q .0) (q .1) _ p _ (d .deeper .ensures) _ n _ _ _ _ _ _ _ _
       (f .before-body .ensures .put) (b .put-block .ensures) (a .put-after .ensures)
 
 pub +put-block+put-pair-spec : {M : Type 1} → statement M
@@ -217,7 +221,7 @@ pub +put-block+put-pair-spec : {M : Type 1} → statement M
     (pair-put-line t)
     (pair-deeper t)
     (pair-next t)
-    (pair-size t)
+    (pair-noted t)
     (pair-front t)
     (pair-body t)
     (pair-back t)

@@ -4,13 +4,14 @@ use mathlib.Core.Path.{_≡_, ap, _∙_}
 use mathlib.Core.List.{List}
 use Prim.Native.Nat.{ℕ, _+_, _-_, _≤_, _<_}
 use native.Mathlib.Omega.{arith}
+use borrow.Author.Needs.{needs}
 use lib.ListN.{length, set}
 use Rattle.theory.specs.Word.{Entry}
 use Rattle.theory.specs.TurnedDown.{word-entries}
-use Rattle.word.specs.declared.reading.Item.{Item}
+use Rattle.word.specs.declared.answers.Item.{Item}
 use Rattle.word.specs.Scan.{item-at, Fillable, Filled}
 use Rattle.word.proofs.Along.{Along, along-start}
-use Rattle.word.proofs.Fills.{put-first, put-none, put-length, put-next, put-all, readable, item-kind, item-operand, item-along}
+use Rattle.word.proofs.Fills.{put-first, put-none, put-length, put-next, put-all, item-kind, item-operand, item-along}
 use Rattle.word.proofs.reading.fill.Statement.{statement}
 use Rattle.word.proofs.reading.fill.Tie as tie
 
@@ -80,9 +81,7 @@ loop-holds c =
     }
 
 item-at-requires : tie.Need-item-at-requires Inv-loop μ-loop
-item-at-requires c κs =
-    let s : _ = c .before .before .before .before .before in
-    (c .before .loop .inv .along .reached, readable (s .args .word .now) (s .pre .passed) .short)
+item-at-requires c κs = search needs
 
 slice-write-kinds : tie.Need-slice-write-kinds Inv-loop μ-loop
 slice-write-kinds c =

@@ -1,38 +1,32 @@
--- `item_at` meets its contract: the two runs are the definition's, and both stand in the word.
+-- `item_at` meets its contract: the two runs are the definition's.
 use mathlib.Core.Path.{_≡_, ap}
 use mathlib.Core.List.{List}
-use Prim.Native.Nat.{ℕ, _+_, _-_}
+use Prim.Native.Nat.{ℕ, _+_, _-_, min}
 use native.Mathlib.Omega.{arith}
 use lib.ListN.{drop}
-use Rattle.word.specs.declared.reading.Item.{Item}
+use Rattle.word.specs.declared.answers.Item.{Item}
 use Rattle.text.specs.Runs.{run}
-use Rattle.word.specs.Scan.{kind-number, item-at, ones-at, hashes-at}
-use Rattle.word.proofs.Items.{ones-within}
+use Rattle.word.specs.Scan.{kind-number, widest, item-at, ones-at, hashes-at}
 use borrow.Author.Needs.{needs}
 use Rattle.word.proofs.reading.item_at.Statement.{statement}
 use Rattle.word.proofs.reading.item_at.Tie as tie
 
 the-item : (w : List ℕ) (at kind middle next : ℕ) → middle ≡ at + ones-at w at → next ≡ middle + run 35 (drop middle w)
-    → kind ≡ kind-number (next - middle) → _≡_ {A = Item} (record { kind = kind; operand = middle - at; next = next }) (item-at w at)
+    → kind ≡ kind-number (next - middle) → (operand : ℕ) → operand ≡ min (middle - at) widest
+    → _≡_ {A = Item} (record { kind = kind; operand = operand; next = next }) (item-at w at)
 unfolding item-at
-the-item w at kind middle next m e k =
+the-item w at kind middle next m e k operand o =
     let hs : run 35 (drop middle w) ≡ hashes-at w at = ap (λ (j : ℕ). run 35 (drop j w)) m in
     let ones : middle - at ≡ ones-at w at = omega arith in
     let hashes : next - middle ≡ hashes-at w at = omega arith in
     let end : next ≡ at + ones-at w at + hashes-at w at = omega arith in
-    rw (k, hashes, ones, end)
+    rw (k, hashes, o, ones, end)
 
 run-end-requires : tie.Need-run-end-requires
 run-end-requires c κs = search needs
 
 run-end-requires-2 : tie.Need-run-end-requires-2
-run-end-requires-2 c κs =
-    omega (
-      arith,
-      c .run-end .ensures,
-      ones-within (c .before .before .args .word .now) (c .before .before .args .at) (c .before .before
-          .pre .0),
-    )
+run-end-requires-2 c κs = search needs
 
 sub-kind-of : tie.Need-sub-kind-of
 sub-kind-of c = search needs
@@ -40,19 +34,19 @@ sub-kind-of c = search needs
 kind-of-requires : tie.Need-kind-of-requires
 kind-of-requires c κs = search needs
 
-sub-t7 : tie.Need-sub-t7
-sub-t7 c = search needs
+sub-operand-of : tie.Need-sub-operand-of
+sub-operand-of c = search needs
 
-cast-t8 : tie.Need-cast-t8
-cast-t8 c =
-    let s : _ = c .before .before .before .before in
-    record { fits = omega (arith, c .before .before .run-end .ensures, ones-within (s .args .word .now) (s .args .at) (s .pre .0)) }
+operand-of-requires : tie.Need-operand-of-requires
+operand-of-requires c κs = search needs
 
 returns : tie.Need-returns
 returns c =
-    let s : _ = c .before .before .before .before in
-    the-item (s .args .word .now) (s .args .at) _ _ _ (c .before .before .run-end .ensures) (c .before .run-end2 .ensures) (c .kind-of
-    .ensures)
+    let hashes = c .before .before in
+    let ones = hashes .before in
+    let a = ones .before .before .args in
+    the-item (a .word .now) (a .at) _ _ _ (ones .run-end .ensures) (hashes .run-end2 .ensures) (c .before .kind-of .ensures)
+    (c .operand-of .result) (c .operand-of .ensures)
 
 pub item-at-spec : {M : Type 1} → statement M
 item-at-spec =
@@ -62,6 +56,6 @@ item-at-spec =
     run-end-requires-2
     sub-kind-of
     kind-of-requires
-    sub-t7
-    cast-t8
+    sub-operand-of
+    operand-of-requires
     returns)

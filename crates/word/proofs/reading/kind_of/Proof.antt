@@ -1,45 +1,33 @@
--- `kind_of` meets its contract: each number of # is a case of the definition.
-use native.Mathlib.Omega.{arith}
+-- `kind_of` meets its contract: each of its ways out is a case of the definition.
 use mathlib.Core.Path.{_≡_, refl}
-use Prim.Native.Nat.{ℕ, zero, suc}
+use Prim.Native.Nat.{ℕ, zero, suc, _≤_, _<_}
+use native.Mathlib.Omega.{arith}
 use borrow.Author.Tests.{le-leb, lt-leb}
+use borrow.Author.Needs.{needs}
 use Rattle.word.specs.Scan.{kind-number}
 use Rattle.word.proofs.reading.kind_of.Statement.{statement}
 use Rattle.word.proofs.reading.kind_of.Tie as tie
 
-none-of : (k : ℕ) → (k ≡ 1 → ⊥) → (k ≡ 2 → ⊥) → (k ≡ 3 → ⊥) → (k ≡ 4 → ⊥) → (k ≡ 5 → ⊥) → 0 ≡ kind-number k
+few : (k : ℕ) → k ≤ 5 → k ≡ kind-number k
 unfolding kind-number
-none-of zero a b c d e = refl
-none-of (suc k) a b c d e = rw (lt-leb (suc k) 5 (omega arith), le-leb 1 (suc k) (omega arith))
+few zero h = refl
+few (suc k) h = rw (le-leb 1 (suc k) (omega arith), le-leb (suc k) 5 h)
+
+many : (k : ℕ) → 5 < k → 0 ≡ kind-number k
+unfolding kind-number
+many k h = rw (le-leb 1 k (omega arith), lt-leb k 5 h)
+
+cast-if1 : tie.Need-cast-if1
+cast-if1 c = search needs
+
+cast-result : tie.Need-cast-result
+cast-result c = search needs
 
 returns : tie.Need-returns
-unfolding kind-number
-returns c = rw (c .match .keys1)
+returns c = few (c .before .args .hashes) (c .if1 .taken)
 
 returns-2 : tie.Need-returns-2
-unfolding kind-number
-returns-2 c = rw (c .match .keys2)
-
-returns-3 : tie.Need-returns-3
-unfolding kind-number
-returns-3 c = rw (c .match .keys3)
-
-returns-4 : tie.Need-returns-4
-unfolding kind-number
-returns-4 c = rw (c .match .keys4)
-
-returns-5 : tie.Need-returns-5
-unfolding kind-number
-returns-5 c = rw (c .match .keys5)
-
-returns-6 : tie.Need-returns-6
-returns-6 c =
-    none-of (c .before .args .hashes)
-    (c .match .rest .0 .0 .0 .0 .1)
-    (c .match .rest .0 .0 .0 .1)
-    (c .match .rest .0 .0 .1)
-    (c .match .rest .0 .1)
-    (c .match .rest .1)
+returns-2 c = many (c .before .args .hashes) (c .if1 .left)
 
 pub kind-of-spec : {M : Type 1} → statement M
-kind-of-spec = tie.close (tie.spec returns returns-2 returns-3 returns-4 returns-5 returns-6)
+kind-of-spec = tie.close (tie.spec cast-if1 cast-result returns returns-2)

@@ -3,16 +3,16 @@
 use mathlib.Core.Path.{_≡_, ap, _∙_}
 use mathlib.Core.Logic.{_⊎_, inl, inr, ⊎-elim}
 use mathlib.Core.List.{List}
-use Prim.Native.Nat.{ℕ, _+_, _-_, _≤_, _<_}
+use Prim.Native.Nat.{ℕ, _+_, _-_, _≤_, _<_, min}
 use native.Mathlib.Omega.{arith}
 use borrow.Author.Needs.{needs}
 use lib.ListN.{length, take}
 use Rattle.theory.specs.TurnedDown.{word-entries, total}
-use Rattle.word.specs.declared.reading.Item.{Item}
+use Rattle.word.specs.declared.answers.Item.{Item}
 use Rattle.word.specs.declared.answers.Read.{Read}
 use Rattle.word.specs.declared.answers.Read.the-variants.{Refused}
-use Rattle.word.specs.Scan.{item-at, ones-at, fault-place, scan-answer}
-use Rattle.word.proofs.Items.{Known, ones-within, next-past}
+use Rattle.word.specs.Scan.{Readable, widest, item-at, ones-at, fault-place, scan-answer}
+use Rattle.word.proofs.Items.{ones-within, next-past}
 use Rattle.word.proofs.Along.{Along, along-start, item-next, item-fault, along-end, scan-count, scan-many}
 use Rattle.word.proofs.reading.scan.Statement.{statement}
 use Rattle.word.proofs.reading.scan.Tie as tie
@@ -27,18 +27,20 @@ scanning-start w = record { along = along-start w; fewer = omega arith; surplus 
 
 operand-within : (w : List ℕ) (at : ℕ) (e : Item) → at ≤ length w → e ≡ item-at w at → at + e .operand ≤ length w
 unfolding item-at
-operand-within w at e h q = let o : e .operand ≡ ones-at w at = ap (λ (j : Item). j .operand) q in omega (arith, ones-within w at h)
+operand-within w at e h q =
+    let o : e .operand ≡ min (ones-at w at) widest = ap (λ (j : Item). j .operand) q in
+    omega (arith, o, ones-within w at h)
 
-module _ (w : List ℕ) (known : Known w) (at count extra : ℕ) (s : Scanning w at count extra) (h : at < length w) (e : Item) (q : e ≡
+module _ (w : List ℕ) (good : Readable w) (at count extra : ℕ) (s : Scanning w at count extra) (h : at < length w) (e : Item) (q : e ≡
     item-at w at) where
   faulty : (place : ℕ) (r : Read) → (e .operand ≡ 0) ⊎ (e .kind ≡ 0) → place ≡ fault-place at e
       → r ≡ Refused (record { number = 13; place = place })
       → r ≡ scan-answer w
-  faulty place r f p a = rw (a, p, q) (item-fault w known at count (s .along) h (rw q at f))
+  faulty place r f p a = rw (a, p, q) (item-fault w (good .known) at count (s .along) h (good .short) (rw q at f))
 
   further : at < e .next
   unfolding item-at
-  further = rw q (next-past w known at h)
+  further = rw q (next-past w (good .known) at h)
 
   nearer : length w - e .next < length w - at
   nearer = omega (arith, further)
@@ -51,7 +53,7 @@ module _ (w : List ℕ) (known : Known w) (at count extra : ℕ) (s : Scanning w
 
     scanning-next : ((count ≡ 8192) × (extra′ ≡ at)) ⊎ ((count ≡ 8192 → ⊥) × (extra′ ≡ extra)) → Scanning w (e .next) (count + 1) extra′
     scanning-next y = record {
-      along = rw q (item-next w known at count (s .along) h (rw q at g) (rw q at f));
+      along = rw q (item-next w (good .known) at count (s .along) h (rw q at g) (rw q at f));
       fewer = omega (arith, s .fewer, further);
       surplus = surplus-next y;
     }
@@ -66,7 +68,7 @@ loop-holds : tie.Need-loop-holds Inv-loop μ-loop
 loop-holds c = scanning-start (c .before .args .word .now)
 
 item-at-requires : tie.Need-item-at-requires Inv-loop μ-loop
-item-at-requires c κs = (c .before .loop .inv .along .reached, c .before .before .before .pre .short)
+item-at-requires c κs = search needs
 
 fault-place-requires : tie.Need-fault-place-requires Inv-loop μ-loop
 fault-place-requires c κs =
@@ -87,7 +89,7 @@ returns c =
     let l : _ = c .before .before .before .before .before .before .loop in
     let s : _ = c .before .before .before .before .before .before .before .before in
     let i : _ = c .before .before .before .before .item-at in
-    faulty (s .args .word .now) (s .pre .known) (l .at) (l .count) (l .extra) (l .inv) (c .before .before .before .before .before
+    faulty (s .args .word .now) (s .pre) (l .at) (l .count) (l .extra) (l .inv) (c .before .before .before .before .before
     .loop-test .taken) (i .result) (i .ensures)
     (c .before .fault-place .result) (c .refused .result) (inl (c .before .before .if1 .taken)) (c .before .fault-place .ensures) (c
     .refused .ensures)
@@ -111,7 +113,7 @@ returns-2 c =
     let l : _ = c .before .before .before .before .before .before .before .before .loop in
     let s : _ = c .before .before .before .before .before .before .before .before .before .before in
     let i : _ = c .before .before .before .before .before .before .item-at in
-    faulty (s .args .word .now) (s .pre .known) (l .at) (l .count) (l .extra) (l .inv) (c .before .before .before .before .before .before
+    faulty (s .args .word .now) (s .pre) (l .at) (l .count) (l .extra) (l .inv) (c .before .before .before .before .before .before
     .before .loop-test .taken) (i .result) (i .ensures)
     (c .before .fault-place2 .result) (c .refused2 .result) (inr (c .before .before .if2 .taken)) (c .before .fault-place2 .ensures) (c
     .refused2 .ensures)
@@ -134,7 +136,7 @@ loop-less c =
     let l : _ = c .before .before .before .before .before .before .before .loop in
     let s : _ = c .before .before .before .before .before .before .before .before .before in
     let i : _ = c .before .before .before .before .before .item-at in
-    nearer (s .args .word .now) (s .pre .known) (l .at) (l .count) (l .extra) (l .inv) (c .before .before .before .before .before .before
+    nearer (s .args .word .now) (s .pre) (l .at) (l .count) (l .extra) (l .inv) (c .before .before .before .before .before .before
     .loop-test .taken) (i .result) (i .ensures)
 
 loop-again : tie.Need-loop-again Inv-loop μ-loop
@@ -142,7 +144,7 @@ loop-again c =
     let l : _ = c .before .before .before .before .before .before .before .loop in
     let s : _ = c .before .before .before .before .before .before .before .before .before in
     let i : _ = c .before .before .before .before .before .item-at in
-    scanning-next (s .args .word .now) (s .pre .known) (l .at) (l .count) (l .extra) (l .inv) (c .before .before .before .before .before
+    scanning-next (s .args .word .now) (s .pre) (l .at) (l .count) (l .extra) (l .inv) (c .before .before .before .before .before
     .before .loop-test .taken) (i .result) (i .ensures)
     (c .before .before .before .if1 .left) (c .before .if2 .left) (c .if3 .extra) (⊎-elim (λ y. inl (y .0 .taken, y .1)) (λ y. inr (
       y .0

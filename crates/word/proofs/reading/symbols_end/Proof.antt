@@ -50,7 +50,8 @@ loop-again c =
     let i : ℕ = c .before .before .before .loop .i in
     let w : _ = c .before .before .before .before .args .word .now in
     let b : ℕ = getD w i 0 in
-    let known : is-symbol b ≡ true = ⊎-elim (λ s. known-hash b (s .0 .taken) (s .1 .left)) (λ s. one-is-symbol b (s .left)) (c .if1 .came) in
+    let known : is-symbol b ≡ true =
+    ⊎-elim (λ s. known-hash b (s .0 .taken) (s .1 .left)) (λ s. one-is-symbol b (s .left)) (c .if1 .came) in
     (omega arith, omega (arith, leading-more is-symbol w i 0 (omega arith) known))
 
 returns-2 : tie.Need-returns-2 Inv-loop μ-loop

@@ -1,0 +1,78 @@
+// The registers of a fresh word: whether a lent memory can hold them, and their layout.
+ghost use mathlib.Core.Path.{_≡_};
+ghost use Prim.Native.Nat.{ℕ, _≤_};
+ghost use lib.Dec.{leb};
+ghost use lib.ListN.{length, getD};
+ghost use Rattle.theory.specs.Basics.{all};
+ghost use Rattle.theory.specs.Machines.{ones, laid};
+ghost use Rattle.memory.specs.Held.{Sized, Held};
+ghost use Rattle.memory.specs.Calls.{memory};
+ghost use Rattle.memory.specs.Fresh.{fresh-registers, can-hold};
+use crate::answers::Machine;
+use crate::layout::is_sized;
+use output::put_runs;
+
+fn wide(x: u32) -> usize
+    ensures { λ r. ⌜ r ≡ x ⌝ }
+{
+    x as usize
+}
+
+// Whether each value is within the capacity.
+fn all_within(values: &[u32], capacity: usize) -> bool
+    ensures { λ r. ⌜ r ≡ all (λ v. leb v capacity) (now (values .entry)) ⌝ }
+{
+    let mut i: usize = 0;
+    while i < values.len() {
+        if capacity < wide(values[i]) {
+            return false;
+        }
+        i += 1;
+    }
+    true
+}
+
+// Whether a lent memory has a register for each value that can hold it.
+pub fn fits(m: Machine, store: &[u8], lengths: &[u16], values: &[u32]) -> bool
+    ensures { λ r. ⌜ r ≡ can-hold (memory m (now (store .entry)) (now (lengths .entry))) (now (values .entry)) ⌝ }
+{
+    if !is_sized(m, store, lengths) {
+        return false;
+    }
+    if m.registers < values.len() {
+        return false;
+    }
+    all_within(values, m.capacity)
+}
+
+// Lays n ones down in a place, and byte 0 after them.
+fn lay(part: &mut [u8], n: usize)
+    requires { ⌜ n ≤ length (now part) ⌝ }
+    ensures { λ _. ⌜ now (part .exit) ≡ laid (length (now (part .entry))) (ones n) ⌝ }
+{
+    let rest = part.len() - n;
+    put_runs(part, 0, n, b'1', rest, 0);
+}
+
+// How many ones register i + 1 holds.
+fn held(values: &[u32], i: usize) -> usize
+    ensures { λ r. ⌜ r ≡ getD (now (values .entry)) i 0 ⌝ }
+{
+    if i < values.len() { wide(values[i]) } else { 0 }
+}
+
+// Fills every register's place, and the lengths.
+pub fn fill(store: &mut [u8], lengths: &mut [u16], capacity: usize, values: &[u32])
+    requires { ⌜ Sized capacity (now store) (now lengths) × ((i : ℕ) → getD (now values) i 0 ≤ capacity) ⌝ }
+    ensures { λ _. ⌜ Held capacity (fresh-registers (now (values .entry))) (now (store .exit)) (now (lengths .exit)) ⌝ }
+{
+    let mut i = 0;
+    while i < lengths.len() {
+        let n = held(values, i);
+        let from = i * capacity;
+        let to = from + capacity;
+        lay(&mut store[from..to], n);
+        lengths[i] = n as u16;
+        i += 1;
+    }
+}

@@ -1,0 +1,25 @@
+-- The rest of the bench examples and the easily misread places hold, by computation.
+use mathlib.Core.Path.{refl}
+use Rattle.theory.specs.Basics.{put}
+use Rattle.theory.specs.Text as T
+use Rattle.theory.specs.ProgramText as P
+use Rattle.theory.specs.Runs as R
+use Rattle.theory.specs.Source as S
+use Rattle.theory.specs.Word as W
+use Rattle.theory.specs.Translation as X
+use Rattle.theory.specs.RunSheet as H
+use Rattle.theory.specs.TurnedDown as D
+use Rattle.theory.specs.RunTool as U
+use Rattle.readings.specs.Examples.{ExamplesHold, bench}
+use Rattle.readings.proofs.RefusalsHold.{refusals-hold}
+use Rattle.readings.proofs.ResultsHold.{results-hold}
+use Rattle.readings.proofs.OrdersHold.{orders-hold}
+
+pub examples-hold : ExamplesHold
+unfolding bench put
+    T.following T.same T.digits T.value-after T.numeral T.name T.split-lines T.ends-in-LF T.split-blanks P.around P.assigns P.command
+    D.rule-1 D.rule-2 D.rule-3 D.lines-fault D.program-fault D.text-fault D.read-text H.names H.values H.start D.sheet-size-fault
+    D.rows-fault D.sheet-fault T.decimal-before T.decimal P.blocks P.block-of R.run S.closing S.open-at S.opening S.depth S.step
+    W.spell-entries W.spell W.step X.code X.word X.word-of X.word-text U.tool-source U.tool-word U.shown U.row U.rows U.tool-fault
+    U.tool-answer U.report
+examples-hold = ((refl, (refl, (refl, (refl, (refl, (refl, (refl, tt))))))), refusals-hold, results-hold, orders-hold)

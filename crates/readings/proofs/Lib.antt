@@ -1,0 +1,5 @@
+pub mod RefusalsHold
+pub mod ResultsHold
+pub mod OrdersHold
+pub mod BudgetsHold
+pub mod ExamplesHold

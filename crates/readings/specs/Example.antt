@@ -1,0 +1,151 @@
+-- The kinds of example, and what each says. Its rows are in Refusals and Results.
+use mathlib.Core.Path.{_≡_}
+use mathlib.Core.Option.{Option, none, some, Option·map}
+use mathlib.Core.List.{List, [], _++_, map}
+use Prim.Native.Nat.{ℕ, zero, suc, _*_}
+use Prim.Native.String.{String}
+use lib.IntN.{ℤ}
+use lib.ListN.{length, getD, replicate}
+use Rattle.theory.specs.Basics.{cells}
+use Rattle.theory.specs.Text.{Bytes, bytes}
+use Rattle.theory.specs.ProgramText.{indices}
+use Rattle.theory.specs.Runs.{Outcome}
+use Rattle.theory.specs.Source as S
+use Rattle.theory.specs.Word as W
+use Rattle.theory.specs.Word.{Entry, bytes-of}
+use Rattle.theory.specs.Translation.{charge}
+use Rattle.theory.specs.Machines.{fresh-source, SourceState, Memory, refilled, Position, word-value}
+use Rattle.theory.specs.TurnedDown.{Answer, done, refused, mapped, lend}
+use Rattle.theory.specs.TurnedDown.{lent-after, instructions, word-entries, sheet-fault, rule-9, rule-10}
+use Rattle.theory.specs.TurnedDown.{read-text, read-list, read-word, read-table, read-word-for, read-table-for, run-program, run-on}
+use Rattle.theory.specs.RunTool.{report}
+use Rattle.theory.specs.declared.Refusal.{Refusal}
+use Rattle.theory.specs.declared.End.{End}
+use Rattle.bench.specs.Table as T
+
+-- What a run of a source shows: its end, its steps, its line, the first so many values and passes left
+pub record SourceShown : Type 0 where
+  pub end : End
+  pub steps : ℕ
+  pub line : ℕ
+  pub values : List ℕ
+  pub passes : List ℕ
+
+-- The same of a word on a machine, with the memory that it leaves
+pub record WordShown : Type 0 where
+  pub end : End
+  pub steps : ℕ
+  pub place : ℤ
+  pub memory : Memory
+
+pub data Example : Type 0 where
+  -- what is turned down, and with what: a text, a list, a word, a table
+  text : Bytes → Option Refusal → Example
+  list : List ℕ → Option Refusal → Example
+  word : Bytes → Option Refusal → Example
+  entries : List Entry → Option Refusal → Example
+  -- a word and a table on a machine of so many registers
+  machine : ℕ → Bytes → Option Refusal → Example
+  table : ℕ → List Entry → Option Refusal → Example
+  -- a program's source state, a machine's memory, a sheet for a program of so many variables
+  source : String → SourceState → Option Refusal → Example
+  memory : Memory → Option Refusal → Example
+  sheet : ℕ → Bytes → Option Refusal → Example
+  -- a lent output and what is to be written there: whether it is turned down, and what the output then holds
+  output : List ℕ → Answer (List ℕ) → Option Refusal → List ℕ → Example
+  fills : List Entry → Answer (List Entry) → Option Refusal → List Entry → Example
+  -- the indices that each line names
+  names : String → List (List ℕ) → Example
+  -- a row as those of the table: a program with its word and both runs, or a word with its run
+  row : T.Row → Example
+  -- the charge of the step that a program is about to do, in each of some states
+  charges : String → List SourceState → List ℕ → Example
+  -- a program's run from a state, and a word's on a memory from a position, with a budget
+  runs : String → SourceState → ℕ → SourceShown → Example
+  word-runs : String → Memory → Position → ℕ → WordShown → Example
+  -- the value of a word at a place, with its registers
+  valued : String → ℤ → List String → Option Bytes → Example
+  -- numbers and bytes that a definition gives
+  numbers : List ℕ → List ℕ → Example
+  spelled : Bytes → String → Example
+  -- the run tool: program, sheet and what it prints
+  prints : Bytes → Bytes → String → Example
+
+abbrev pub refusal : {A : Type 0} → Answer A → Option Refusal
+refusal (done a) = none
+refusal (refused r) = some r
+
+abbrev pub lends : {A : Type 0} → List A → Answer (List A) → Option Refusal × List A
+lends lent r = let a = lend lent r in (refusal a, lent-after lent a)
+
+unfoldable pub show-source : ℕ → ℕ → Outcome S.State → SourceShown
+show-source n m o =
+    let s = o .state in
+    record { end = o .end; steps = o .steps; line = s .line; values = cells n (s .values); passes = cells m (s .passes) }
+
+unfoldable pub show-word : Memory → Outcome W.State → WordShown
+show-word m o = record { end = o .end; steps = o .steps; place = o .state .place; memory = refilled m (o .state .registers) }
+
+abbrev pub Holds : Example → Type 0
+Holds (text t r) = refusal (read-text t) ≡ r
+Holds (list l r) = refusal (read-list l) ≡ r
+Holds (word w r) = refusal (read-word w) ≡ r
+Holds (entries t r) = refusal (read-table t) ≡ r
+Holds (machine registers w r) = refusal (read-word-for registers w) ≡ r
+Holds (table registers t r) = refusal (read-table-for registers t) ≡ r
+Holds (source t s r) = mapped (λ p. rule-9 p s) (read-text (bytes t)) ≡ done r
+Holds (memory m r) = rule-10 m ≡ r
+Holds (sheet K t r) = sheet-fault 1024 K t ≡ r
+Holds (output lent a r l) = lends lent a ≡ (r, l)
+Holds (fills lent a r l) = lends lent a ≡ (r, l)
+Holds (names t is) = mapped (map indices) (read-text (bytes t)) ≡ done is
+Holds (row r) = T.Holds r
+Holds (charges t ss l) = mapped (λ p. map (λ s. charge p (s .state)) ss) (read-text (bytes t)) ≡ done l
+Holds (runs t s budget e) =
+    mapped (show-source (length (e .values)) (length (e .passes))) (run-program (read-text (bytes t)) s budget) ≡ done e
+Holds (word-runs w m p budget e) = mapped (show-word m) (run-on m p budget (read-word-for (m .count) (bytes w))) ≡ done e
+Holds (valued w q rs v) =
+    Option·map bytes-of (word-value (instructions (word-entries (bytes w))) (record { place = q; registers = T.from rs })) ≡ v
+Holds (numbers l expected) = l ≡ expected
+Holds (spelled b expected) = b ≡ bytes expected
+Holds (prints t s out) = report t s ≡ bytes out
+
+-- n times the same
+abbrev pub times : ℕ → Bytes → Bytes
+times zero t = []
+times (suc n) t = t ++ times n t
+
+abbrev pub passes : Option Refusal
+passes = none
+
+abbrev pub entry : ℕ → ℕ → Entry
+entry k n = record { kind = k; operand = n }
+
+-- A source state, of a capacity, a line, the first values and passes left
+abbrev pub state : ℕ → ℕ → List ℕ → List ℕ → SourceState
+state capacity l v k = record {
+  capacity = capacity;
+  steps = 0;
+  state = record { line = l; values = λ i. getD v i 0; passes = λ d. getD k d 0 };
+}
+
+-- A fresh state, with a count of steps
+abbrev pub fresh : ℕ → ℕ → List ℕ → SourceState
+fresh capacity count v = record { capacity = capacity; steps = count; state = fresh-source (λ i. getD v i 0) }
+
+abbrev pub nested : String
+nested = "loop X0\nloop X0\nendloop X0\nendloop X0\n"
+
+abbrev pub loop-in-while : String
+loop-in-while = "while X0 != 0\nloop X0\nX0 <- 0\nendloop X0\nendwhile X0 != 0\n"
+
+-- A memory of one register; one of so many registers, all empty
+abbrev pub register : ℕ → String → List ℕ → Memory
+register capacity b l = record { count = 1; capacity = capacity; store = bytes b; lengths = l }
+
+abbrev pub empty : ℕ → ℕ → Memory
+empty n capacity = record { count = n; capacity = capacity; store = replicate (n * capacity) 0; lengths = replicate n 0 }
+
+-- A memory of so many registers of capacity 2
+abbrev pub several : ℕ → String → List ℕ → Memory
+several n b l = record { count = n; capacity = 2; store = bytes b; lengths = l }

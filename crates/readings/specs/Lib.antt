@@ -1,0 +1,5 @@
+pub mod Example
+pub mod Refusals
+pub mod Results
+pub mod Orders
+pub mod Examples

@@ -1,0 +1,49 @@
+-- The order in which each call checks what it is given: of two faults the one that is answered, and a fault of each kind by itself.
+use mathlib.Core.Path.{_≡_}
+use mathlib.Core.Option.{Option}
+use mathlib.Core.List.{List, [], _∷_}
+use lib.IntN.{pos}
+use lib.ListN.{replicate}
+use Rattle.theory.specs.Text.{bytes}
+use Rattle.theory.specs.Machines.{Position}
+use Rattle.theory.specs.TurnedDown.{refuse, read-text, read-list, read-word-for, read-table-for, run-program, run-on}
+use Rattle.theory.specs.TurnedDown.{read-program-into, write-program-into, translate-into, read-word-into, write-word-into}
+use Rattle.theory.specs.declared.Refusal.{Refusal}
+use Rattle.readings.specs.Example.{refusal, passes, entry, state, empty}
+
+abbrev pub start : Position
+start = record { place = pos 1; steps = 0 }
+
+-- What a call answers, and what it should
+pub data Order : Type 0 where
+  row : Option Refusal → Option Refusal → Order
+
+abbrev pub Answers : Order → Type 0
+Answers (row answer expected) = answer ≡ expected
+
+unfoldable pub orders : List Order
+orders =
+    row (refusal (read-program-into [] (bytes "z\n"))) (refuse 4 1)
+    ∷ row (refusal (read-program-into (9 ∷ 9 ∷ []) (bytes "X0 <- 0\n"))) (refuse 19 0)
+    ∷ row (refusal (read-program-into (9 ∷ 9 ∷ 9 ∷ []) (bytes "X0 <- 0\n"))) passes
+    ∷ row (refusal (write-program-into [] (1 ∷ []))) (refuse 4 1)
+    ∷ row (refusal (write-program-into (replicate 7 9) (1 ∷ 0 ∷ 0 ∷ []))) (refuse 19 0)
+    ∷ row (refusal (write-program-into (replicate 8 9) (1 ∷ 0 ∷ 0 ∷ []))) passes
+    ∷ row (refusal (translate-into [] (read-text (bytes "z\n")))) (refuse 4 1)
+    ∷ row (refusal (translate-into (9 ∷ 9 ∷ 9 ∷ []) (read-text []))) (refuse 19 0)
+    ∷ row (refusal (translate-into (9 ∷ 9 ∷ 9 ∷ 9 ∷ []) (read-list []))) passes
+    ∷ row (refusal (run-program (read-text (bytes "z\n")) (state 0 1 [] []) 7)) (refuse 4 1)  -- the program before its state
+    ∷ row (refusal (run-program (read-text []) (state 0 1 [] []) 7)) (refuse 9 0)
+    ∷ row (refusal (run-program (read-list []) (state 1 1 [] []) 7)) passes
+    ∷ row (refusal (read-word-into [] [] (bytes "#"))) (refuse 13 0)
+    ∷ row (refusal (read-word-into (9 ∷ []) [] (bytes "1#"))) (refuse 19 0)  -- either list
+    ∷ row (refusal (read-word-into [] (9 ∷ []) (bytes "1#"))) (refuse 19 0)
+    ∷ row (refusal (read-word-into (9 ∷ []) (9 ∷ []) (bytes "1#"))) passes
+    ∷ row (refusal (write-word-into [] [])) (refuse 11 0)
+    ∷ row (refusal (write-word-into (9 ∷ []) (entry 1 1 ∷ []))) (refuse 19 0)
+    ∷ row (refusal (write-word-into (9 ∷ 9 ∷ []) (entry 1 1 ∷ []))) passes
+    ∷ row (refusal (run-on (empty 1 0) start 7 (read-word-for 1 []))) (refuse 10 0)  -- the machine before the word
+    ∷ row (refusal (run-on (empty 1 1) start 7 (read-word-for 1 (bytes "11#")))) (refuse 15 0)
+    ∷ row (refusal (run-on (empty 1 1) start 7 (read-table-for 1 []))) (refuse 11 0)
+    ∷ row (refusal (run-on (empty 1 1) start 7 (read-word-for 1 (bytes "1#")))) passes
+    ∷ []

@@ -1,0 +1,268 @@
+-- What is turned down, and with what: an example for each place of the rules that is easily misread, or that nothing else holds.
+use mathlib.Core.List.{List, [], _∷_, _++_}
+use lib.ListN.{replicate}
+use Rattle.theory.specs.Limits
+use Rattle.theory.specs.Basics.{cells}
+use Rattle.theory.specs.Text.{bytes, LF}
+use Rattle.theory.specs.RunSheet as H
+use Rattle.theory.specs.TurnedDown.{refuse}
+use Rattle.readings.specs.Example.{Example, text, list, word, entries, machine, table, source, memory, sheet, names}
+use Rattle.readings.specs.Example.{numbers, times, passes, entry, state, fresh, nested, loop-in-while, register, empty, several}
+
+-- The limits, in the order of Limits
+unfoldable pub limits : List Example
+limits =
+    numbers
+    (Limits.most-bytes ∷ Limits.most-lines ∷ Limits.most-index ∷ Limits.most-open ∷ Limits.state-values ∷ Limits.state-passes
+    ∷ Limits.most-symbols ∷ Limits.most-instructions ∷ Limits.most-registers ∷ Limits.most-capacity ∷ Limits.last-count
+    ∷ Limits.most-sheet-bytes ∷ Limits.tool-registers ∷ Limits.tool-capacity ∷ Limits.tool-source-budget ∷ Limits.tool-word-budget
+    ∷ Limits.tool-word-bytes ∷ [])
+    (16384 ∷ 512 ∷ 31 ∷ 16 ∷ 32 ∷ 16 ∷ 600000 ∷ 8192 ∷ 64 ∷ 1024 ∷ 4294967295 ∷ 4096 ∷ 64 ∷ 1024 ∷ 100000 ∷ 1000000 ∷ 65536 ∷ [])
+    ∷ []
+
+-- Rules 1 to 3, and empty lines
+unfoldable pub texts : List Example
+texts =
+    text [] passes
+    ∷ text (bytes "X0 <- 0") (refuse 2 1)  -- the last line has no LF
+    ∷ text (bytes "z") (refuse 2 1)
+    ∷ text (bytes "X0 <- 0\t") (refuse 2 1)
+    ∷ text (replicate 513 LF ++ bytes "z") (refuse 2 514)  -- 2 before 3, its place not bounded
+    ∷ text (replicate 16383 LF ++ bytes "z") (refuse 2 16384)
+    ∷ text (replicate 16385 0) (refuse 1 0)
+    ∷ text (replicate 600 LF) (refuse 3 513)  -- 3 before 4, its place fixed
+    ∷ text (bytes "\n") (refuse 4 1)  -- an empty line is no spelling
+    ∷ text (bytes "X0 <- 0\n\n") (refuse 4 2)
+    ∷ []
+
+-- Rules 4 and 5 in one line
+unfoldable pub spellings : List Example
+spellings =
+    text (bytes "X99999999999999999999 <- 0\n") (refuse 5 1)  -- an index of any number of digits
+    ∷ text (bytes "X4294967296 <- 0\n") (refuse 5 1)
+    ∷ text (bytes "X18446744073709551616 <- 0\n") (refuse 5 1)
+    ∷ text (bytes "X99999999999999999999 <- X99999999999999999998 + 1\n") (refuse 4 1)  -- names are compared as names
+    ∷ text (bytes "X99999999999999999999 <- X99999999999999999999 + 1\n") (refuse 5 1)
+    ∷ text (bytes "X32 <- X33 + 1\n") (refuse 4 1)
+    ∷ text (bytes "X32 <- X032\n") (refuse 4 1)
+    ∷ text (bytes "X032 <- X32\n") (refuse 4 1)
+    ∷ text (bytes "X0 <- X32\n") (refuse 5 1)  -- a copy names both
+    ∷ text (bytes "moop X0\n") (refuse 4 1)  -- every byte is compared
+    ∷ text (bytes "X0 =- 0\n") (refuse 4 1)
+    ∷ text (bytes "Y0 <- 0\n") (refuse 4 1)
+    ∷ []
+
+-- Lines that are almost a spelling: only LF ends a line, and every other byte belongs to it
+unfoldable pub almost : List Example
+almost =
+    text (bytes "X3 <- X3 \n") (refuse 4 1)
+    ∷ text (bytes "X3 <- X3 +\n") (refuse 4 1)
+    ∷ text (bytes "X3 <- X3 + 1 \n") (refuse 4 1)
+    ∷ text (bytes "X <- 0\n") (refuse 4 1)
+    ∷ text (bytes "X0 <-  0\n") (refuse 4 1)
+    ∷ text (bytes "while X0\n") (refuse 4 1)
+    ∷ text (bytes "loop X0 != 0\n") (refuse 4 1)
+    ∷ text (bytes "X0 <- 0\r\n") (refuse 4 1)
+    ∷ text (bytes "X0 <- 0\tX0 <- 0\n") (refuse 4 1)
+    ∷ text (bytes "X0 <- 0\0\n") (refuse 4 1)
+    ∷ text (128 ∷ LF ∷ []) (refuse 4 1)
+    ∷ []
+
+-- Rules 6 to 8 and the order of lines
+unfoldable pub pairs : List Example
+pairs =
+    text (bytes "endloop X0\nzzz\n") (refuse 7 1)  -- line by line, not rule by rule
+    ∷ text (bytes "endloop X32\n") (refuse 5 1)  -- in a line the lower number
+    ∷ text (times 16 (bytes "loop X0\n") ++ bytes "loop X32\n") (refuse 5 17)
+    ∷ text (times 16 (bytes "loop X0\n") ++ bytes "loop X01\n") (refuse 4 17)
+    ∷ text (times 16 (bytes "loop X0\n") ++ bytes "while X0 != 0\n") (refuse 6 17)
+    ∷ text (times 16 (bytes "while X0 != 0\n") ++ times 16 (bytes "endwhile X0 != 0\n")) passes
+    ∷ text (times 17 (bytes "loop X0\nendloop X0\n")) passes  -- closed again, a pair counts no more
+    ∷ text (bytes "loop X0\nwhile X1 != 0\n") (refuse 8 2)  -- the innermost that is left open
+    ∷ text (bytes "loop X0\nzzz\n") (refuse 4 2)  -- 8 after every line
+    ∷ text (bytes "while X0 != 0\nendloop X0\n") (refuse 7 2)
+    ∷ text (bytes "loop X0\nendwhile X0 != 0\n") (refuse 7 2)
+    ∷ text (bytes "loop X0\nendloop X1\n") (refuse 7 2)
+    ∷ []
+
+-- Lists of numbers handed in
+unfoldable pub lists : List Example
+lists =
+    list (times 512 (1 ∷ 0 ∷ 0 ∷ [])) passes
+    ∷ list (replicate 1537 0) (refuse 3 513)  -- a command cut short is counted
+    ∷ list (1 ∷ 0 ∷ 0 ∷ 1 ∷ 0 ∷ []) (refuse 4 2)
+    ∷ list (1 ∷ 0 ∷ 0 ∷ 1 ∷ []) (refuse 4 2)
+    ∷ list (1 ∷ 32 ∷ 0 ∷ 1 ∷ []) (refuse 5 1)  -- after earlier lines
+    ∷ list (0 ∷ 0 ∷ 0 ∷ []) (refuse 4 1)
+    ∷ list (8 ∷ 0 ∷ 0 ∷ []) (refuse 4 1)
+    ∷ list (1 ∷ 32 ∷ 1 ∷ []) (refuse 4 1)
+    ∷ list (3 ∷ 0 ∷ 32 ∷ []) (refuse 5 1)
+    ∷ list (1 ∷ 4294967295 ∷ 0 ∷ []) (refuse 5 1)
+    ∷ names "X5 <- 0\nX2 <- X2 + 1\nX1 <- X3\n" ((5 ∷ []) ∷ (2 ∷ []) ∷ (1 ∷ 3 ∷ []) ∷ [])  -- a third number 0 is no name
+    ∷ names "loop X3\nendloop X3\nwhile X4 != 0\nendwhile X4 != 0\n" ((3 ∷ []) ∷ (3 ∷ []) ∷ (4 ∷ []) ∷ (4 ∷ []) ∷ [])
+    ∷ []
+
+-- Words, rules 11 to 14
+unfoldable pub words : List Example
+words =
+    word [] (refuse 11 0)
+    ∷ word (bytes "#2") (refuse 12 1)  -- 12 before 13
+    ∷ word (bytes "1#\n") (refuse 12 2)
+    ∷ word (bytes "1######1") (refuse 13 6)  -- the sixth #
+    ∷ word (bytes "1#######") (refuse 13 6)
+    ∷ word (bytes "#1") (refuse 13 0)
+    ∷ word (bytes "11#1") (refuse 13 4)  -- the length
+    ∷ word (bytes "1#####11######") (refuse 13 13)
+    ∷ word (times 8192 (bytes "1#")) passes
+    ∷ word (times 8193 (bytes "1#")) (refuse 14 16384)
+    ∷ word (times 8193 (bytes "1#") ++ bytes "1") (refuse 13 16387)  -- 13 before 14
+    ∷ []
+
+-- Tables, rules 11, 13 and 14
+unfoldable pub tables : List Example
+tables =
+    entries [] (refuse 11 0)
+    ∷ entries (entry 5 599995 ∷ []) passes
+    ∷ entries (entry 5 599996 ∷ []) (refuse 11 0)
+    ∷ entries (entry 4000000000 1 ∷ []) (refuse 11 0)  -- the sum first, of whatever is there
+    ∷ entries (entry 1 18446744073709551615 ∷ entry 1 1 ∷ []) (refuse 11 0)
+    ∷ entries (entry 1 0 ∷ []) (refuse 13 0)
+    ∷ entries (entry 1 1 ∷ entry 6 1 ∷ []) (refuse 13 1)
+    ∷ entries (replicate 8193 (entry 0 0)) (refuse 13 0)  -- a sum of 0 is not 11
+    ∷ entries (replicate 8192 (entry 1 1)) passes
+    ∷ entries (replicate 8193 (entry 1 1)) (refuse 14 8192)
+    ∷ entries (replicate 8193 (entry 1 1) ++ (entry 0 1 ∷ [])) (refuse 13 8193)  -- 13 anywhere before 14
+    ∷ []
+
+-- Words and tables on a machine, rule 15
+unfoldable pub machines : List Example
+machines =
+    machine 1 (bytes "11#11####") (refuse 15 0)  -- an append to register 2 of 1
+    ∷ machine 1 (bytes "1#11##") (refuse 15 2)
+    ∷ machine 1 (bytes "1#11#####") (refuse 15 2)
+    ∷ machine 2 (bytes "1#11#####") passes
+    ∷ machine 1 (bytes "111###11####") passes  -- transfers name no register
+    ∷ machine 1 (bytes "11#" ++ times 8192 (bytes "1#")) (refuse 14 16385)  -- 14 before 15
+    ∷ word (times 65 (bytes "1") ++ bytes "#") passes  -- without a machine no 15
+    ∷ machine 64 (times 65 (bytes "1") ++ bytes "#") (refuse 15 0)
+    ∷ table 1 (entry 3 2 ∷ entry 1 2 ∷ []) (refuse 15 1)
+    ∷ table 1 (entry 1 2 ∷ entry 0 1 ∷ []) (refuse 13 1)  -- 13 before 15
+    ∷ table 1 (entry 1 1 ∷ entry 0 0 ∷ []) (refuse 13 1)  -- an entry that was not filled
+    ∷ []
+
+-- Source states, rule 9: line and passes left
+unfoldable pub places : List Example
+places =
+    source nested (state 9 1 (9 ∷ []) []) passes
+    ∷ source nested (state 9 2 (9 ∷ []) (1 ∷ [])) passes  -- inside the first loop, at the `loop` line of the second
+    ∷ source nested (state 9 3 (9 ∷ []) (9 ∷ 1 ∷ [])) passes  -- an `endloop` line is held by its loop
+    ∷ source nested (state 9 5 (9 ∷ []) []) passes  -- the line after the last
+    ∷ source nested (state 9 6 (9 ∷ []) []) (refuse 9 0)
+    ∷ source nested (state 9 0 (9 ∷ []) []) (refuse 9 0)
+    ∷ source nested (state 9 2 (9 ∷ []) (1 ∷ 1 ∷ [])) (refuse 9 0)  -- nonzero for a loop that does not hold the line
+    ∷ source nested (state 9 5 (9 ∷ []) (1 ∷ [])) (refuse 9 0)
+    ∷ source nested (state 9 3 (9 ∷ []) (1 ∷ [])) (refuse 9 0)
+    ∷ source nested (state 9 2 (9 ∷ []) (10 ∷ [])) (refuse 9 0)
+    ∷ source loop-in-while (state 9 3 (9 ∷ []) (1 ∷ [])) passes  -- WHILEs are not counted
+    ∷ source loop-in-while (state 9 5 (9 ∷ []) (1 ∷ [])) (refuse 9 0)
+    ∷ []
+
+-- Source states, rule 9: capacity, values, and what is not checked
+unfoldable pub states : List Example
+states =
+    source nested (state 9 1 (10 ∷ []) []) (refuse 9 0)
+    ∷ source nested (state 9 1 (0 ∷ 1 ∷ []) []) (refuse 9 0)  -- a value at index K or higher
+    ∷ source "" (state 9 1 (1 ∷ []) []) (refuse 9 0)
+    ∷ source "" (state 9 1 (replicate 31 0 ++ (1 ∷ [])) []) (refuse 9 0)
+    ∷ source "" (state 9 1 [] (replicate 15 0 ++ (1 ∷ []))) (refuse 9 0)
+    ∷ source "" (state 0 1 [] []) (refuse 9 0)
+    ∷ source "" (state 1 1 [] []) passes
+    ∷ source "" (state 1024 1 [] []) passes
+    ∷ source "" (state 1025 1 [] []) (refuse 9 0)
+    ∷ source "" (fresh 9 4294967295 []) passes  -- any count of steps
+    ∷ []
+
+-- Memories, rule 10: sizes
+unfoldable pub memories : List Example
+memories =
+    memory (empty 64 1) passes
+    ∷ memory (empty 65 1) (refuse 10 0)
+    ∷ memory (empty 0 1) (refuse 10 0)
+    ∷ memory (empty 1 1024) passes
+    ∷ memory (empty 1 1025) (refuse 10 0)
+    ∷ memory (empty 1 0) (refuse 10 0)
+    ∷ memory (register 3 "1#\0\0" (2 ∷ [])) (refuse 10 0)  -- exactly all places
+    ∷ memory (register 3 "1#" (2 ∷ [])) (refuse 10 0)
+    ∷ memory (register 3 "1#\0" (2 ∷ 0 ∷ [])) (refuse 10 0)
+    ∷ memory (register 3 "\0\0\0" []) (refuse 10 0)
+    ∷ []
+
+-- Memories, rule 10: layout
+unfoldable pub layouts : List Example
+layouts =
+    memory (register 3 "1#\0" (2 ∷ [])) passes
+    ∷ memory (register 3 "1#1" (3 ∷ [])) passes
+    ∷ memory (register 3 "1#\0" (1 ∷ [])) (refuse 10 0)  -- byte 0 after its symbols
+    ∷ memory (register 3 "1#\0" (3 ∷ [])) (refuse 10 0)
+    ∷ memory (register 3 "1##" (4 ∷ [])) (refuse 10 0)
+    ∷ memory (register 3 "12\0" (2 ∷ [])) (refuse 10 0)
+    ∷ memory (several 2 "1\0##" (1 ∷ 2 ∷ [])) passes  -- register r from byte (r - 1) × capacity
+    ∷ memory (several 2 "1\0##" (2 ∷ 1 ∷ [])) (refuse 10 0)
+    ∷ memory (several 2 "1###" (1 ∷ 2 ∷ [])) (refuse 10 0)
+    ∷ memory (several 3 "1\0##12" (1 ∷ 2 ∷ 2 ∷ [])) (refuse 10 0)
+    ∷ []
+
+-- Sheets: sizes and names
+unfoldable pub sheets : List Example
+sheets =
+    sheet 2 [] (refuse 16 0)
+    ∷ sheet 2 (bytes "X9") (refuse 16 0)  -- sizes first
+    ∷ sheet 0 (replicate 4096 LF) passes  -- 4,095 runs
+    ∷ sheet 0 (replicate 4097 LF) (refuse 16 0)
+    ∷ sheet 2 (bytes "X99 y\n") (refuse 16 1)  -- the whole line's shape first
+    ∷ sheet 2 (bytes "X01\n") (refuse 16 1)
+    ∷ sheet 2 (bytes "X0  X1\n") (refuse 16 1)
+    ∷ sheet 2 (bytes " X0\n") (refuse 16 1)
+    ∷ sheet 2 (bytes "X0 \n") (refuse 16 1)
+    ∷ sheet 2 (bytes "X1X0\n") (refuse 16 1)
+    ∷ sheet 2 (bytes "X0\tX1\n") (refuse 16 1)
+    ∷ sheet 2 (bytes "1\n") (refuse 16 1)
+    ∷ []
+
+-- Sheets: names and their rule 17
+unfoldable pub named : List Example
+named =
+    sheet 2 (bytes "X0 X1\n") passes
+    ∷ sheet 2 (bytes "X2\n") (refuse 17 1)
+    ∷ sheet 0 (bytes "X0\n") (refuse 17 1)
+    ∷ sheet 2 (bytes "X99999999999999999999\n") (refuse 17 1)
+    ∷ sheet 2 (bytes "X1 X1\n") (refuse 17 1)
+    ∷ sheet 2 (bytes "X0 X1 X0\n") (refuse 17 1)
+    ∷ sheet 3 (bytes "X0 X1 X1\n") (refuse 17 1)
+    ∷ sheet 32 (times 33 (bytes "X0 ") ++ bytes "X1\n") (refuse 17 1)
+    ∷ sheet 32 (times 33 (bytes "X0 ") ++ bytes "y\n") (refuse 16 1)
+    ∷ sheet 2 (bytes "X2\nz\n") (refuse 17 1)  -- line by line
+    ∷ numbers (cells 4 (H.start (2 ∷ 0 ∷ 1 ∷ []) (5 ∷ 6 ∷ 7 ∷ []))) (6 ∷ 7 ∷ 5 ∷ 0 ∷ [])  -- each name has its own value
+    ∷ []
+
+-- Sheets: lines of values
+unfoldable pub lines : List Example
+lines =
+    sheet 2 (bytes "X1\n1025\nz\n") (refuse 18 2)  -- line by line
+    ∷ sheet 2 (bytes "X1\n1024\nz\n") (refuse 16 3)
+    ∷ sheet 2 (bytes "X1\n1025 z\n") (refuse 16 2)
+    ∷ sheet 2 (bytes "X1\n0 1025\n") (refuse 16 2)
+    ∷ sheet 2 (bytes "X1 X0\n0 1025\n") (refuse 18 2)
+    ∷ sheet 2 (bytes "X1\n4294967296\n") (refuse 18 2)  -- a value of any number of digits
+    ∷ sheet 2 (bytes "X1\n01\n") (refuse 16 2)
+    ∷ sheet 2 (bytes "X1 X0\n1  2\n") (refuse 16 2)
+    ∷ sheet 2 (bytes "X1\n1 \n") (refuse 16 2)
+    ∷ sheet 2 (bytes "X1\n\n") (refuse 16 2)
+    ∷ sheet 2 (bytes "\n7\n") (refuse 16 2)
+    ∷ []
+
+-- All of them
+unfoldable pub refusals : List (List Example)
+refusals =
+    limits ∷ texts ∷ spellings ∷ almost ∷ pairs ∷ lists ∷ words ∷ tables ∷ machines ∷ places ∷ states ∷ memories ∷ layouts
+    ∷ sheets ∷ named ∷ lines ∷ []

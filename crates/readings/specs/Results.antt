@@ -1,0 +1,250 @@
+-- What is handed back: lent outputs, words, runs and what the run tool prints.
+use mathlib.Core.Option.{none, some}
+use mathlib.Core.List.{List, [], _∷_, _++_, map}
+use Prim.Native.Nat.{ℕ}
+use Prim.Native.String.{String}
+use lib.IntN.{ℤ, pos, negsuc}
+use lib.ListN.{replicate}
+use Rattle.theory.specs.Text.{Bytes, bytes}
+use Rattle.theory.specs.ProgramText.{plain, increment, spelling, list-of, text-of}
+use Rattle.theory.specs.Translation.{word-text}
+use Rattle.theory.specs.Machines.{fresh-source, fresh-word, SourceState, Memory, Position}
+use Rattle.theory.specs.TurnedDown.{Answer, mapped, refuse}
+use Rattle.theory.specs.TurnedDown.{read-text, read-list, read-word, read-word-for}
+use Rattle.theory.specs.RunTool.{shown, end-name}
+use Rattle.theory.specs.declared.End.{End}
+use Rattle.theory.specs.declared.End.the-variants.{Halted, Strayed, Spent, Full}
+use Rattle.bench.specs.Table as T
+use Rattle.readings.specs.Example.{Example, output, fills, row, charges, runs, word-runs, valued, spelled, prints, SourceShown}
+use Rattle.readings.specs.Example.{WordShown, times, passes, entry, state, fresh, nested, loop-in-while, register, several}
+
+-- A program as a list, its word, and the text of a list
+abbrev pub list-for : String → Answer (List ℕ)
+list-for t = mapped list-of (read-text (bytes t))
+
+abbrev pub word-for : String → Answer (List ℕ)
+word-for t = mapped word-text (read-text (bytes t))
+
+abbrev pub text-for : List ℕ → Answer (List ℕ)
+text-for l = mapped text-of (read-list l)
+
+abbrev pub seven : String
+seven = "X3 <- 0\nX3 <- X3 + 1\nX3 <- X5\nloop X3\nendloop X3\nwhile X3 != 0\nendwhile X3 != 0\n"
+
+abbrev pub seven-listed : List ℕ
+seven-listed = 1 ∷ 3 ∷ 0 ∷ 2 ∷ 3 ∷ 0 ∷ 3 ∷ 3 ∷ 5 ∷ 4 ∷ 3 ∷ 0 ∷ 5 ∷ 3 ∷ 0 ∷ 6 ∷ 3 ∷ 0 ∷ 7 ∷ 3 ∷ 0 ∷ []
+
+-- Lent outputs: nothing changes where one is too short, and what is past the result stays
+unfoldable pub outputs : List Example
+outputs =
+    output (replicate 21 9) (list-for seven) passes seven-listed
+    ∷ output (replicate 22 9) (list-for seven) passes (seven-listed ++ (9 ∷ []))
+    ∷ output (replicate 20 9) (list-for seven) (refuse 19 0) (replicate 20 9)
+    ∷ output [] (list-for "zzz\n") (refuse 4 1) []  -- 19 last
+    ∷ output (replicate 80 9) (text-for seven-listed) passes (bytes seven)
+    ∷ output (replicate 79 9) (text-for seven-listed) (refuse 19 0) (replicate 79 9)
+    ∷ output (9 ∷ 9 ∷ 9 ∷ []) (word-for "") (refuse 19 0) (9 ∷ 9 ∷ 9 ∷ [])
+    ∷ output (9 ∷ 9 ∷ 9 ∷ 9 ∷ 9 ∷ []) (word-for "") passes (49 ∷ 35 ∷ 35 ∷ 35 ∷ 9 ∷ [])
+    ∷ fills (entry 9 9 ∷ []) (read-word (bytes "1#11#####")) (refuse 19 0) (entry 9 9 ∷ [])
+    ∷ fills (entry 9 9 ∷ entry 9 9 ∷ entry 9 9 ∷ []) (read-word (bytes "1#11#####")) passes (entry 1 1 ∷ entry 5 2 ∷ entry 9 9 ∷ [])
+    ∷ fills [] (read-word-for 1 (bytes "1#11#####")) (refuse 15 2) []
+    ∷ []
+
+-- A word given in parts, the first instruction and a part for each line of its program
+abbrev pub joined : List String → Bytes
+joined [] = []
+joined (w ∷ ws) = bytes w ++ joined ws
+
+abbrev pub gives : List String → End → ℕ → List ℕ → T.Shown → T.Both
+gives ws e n v r = record { word = joined ws; end = e; steps = n; values = v; run = r }
+
+abbrev pub loop-in-while-word : List String
+loop-in-while-word =
+    "1###" ∷ "1#####111111111111111111###1#" ∷ "1#####1111###111#11#1111####11#####111###1#111####111#####11111###"
+    ∷ "1#####11###11####" ∷ "11111####" ∷ "111111111111111111####" ∷ []
+
+abbrev pub while-in-loops-word : List String
+while-in-loops-word =
+    "1###" ∷ "1#####1111###11111#1111#1111####1111#####111###1#111####11111#####111111111111111111111###"
+    ∷ "11#####1111###111111#1111#1111####1111#####111###11#111####111111#####111111111###" ∷ "111#####111111###111#"
+    ∷ "111#####11###11####" ∷ "111111####" ∷ "111111111####" ∷ "111111111111111111111####" ∷ []
+
+abbrev pub loop-in-loop-word : List String
+loop-in-loop-word =
+    "1###" ∷ "1#####1111###111#11#1111####11#####111###1#111####111#####111111111111111###"
+    ∷ "1#####1111###1111#11#1111####11#####111###1#111####1111#####111###" ∷ "1#" ∷ "111####" ∷ "111111111111111####" ∷ []
+
+abbrev pub two-loops-word : List String
+two-loops-word =
+    "1###" ∷ "1#####1111###1111#111#1111####111#####111###1#111####1111#####11###" ∷ "11####"
+    ∷ "11#####1111###1111#111#1111####111#####111###11#111####1111#####11###" ∷ "11####" ∷ []
+
+abbrev pub empty-loop-word : List String
+empty-loop-word =
+    "1###" ∷ "1#####1111###111#11#1111####11#####111###1#111####111#####11###" ∷ "11####" ∷ []
+
+abbrev pub empty-while-word : List String
+empty-while-word =
+    "1###" ∷ "1#####111###1#" ∷ "111####" ∷ []
+
+abbrev pub filling-copy-word : List String
+filling-copy-word =
+    "1###" ∷ "1#####11###11####11#####1111###1#111#1111####111#####111###11#111####" ∷ []
+
+-- Programs with their words and both runs: loops within loops, empty bodies, a capacity filled exactly
+unfoldable pub programs : List Example
+programs =
+    row (T.program loop-in-while 1024 (2 ∷ [])  -- its counter is that of a loop inside none
+    (gives loop-in-while-word Halted 8 (0 ∷ []) (T.shows Halted 38 (pos 21) ("" ∷ []))))
+    ∷ row (T.program "loop X0\nloop X1\nwhile X2 != 0\nX2 <- 0\nendwhile X2 != 0\nendloop X1\nendloop X0\n" 1024 (2 ∷ 2 ∷ 1 ∷ [])
+    (gives while-in-loops-word Halted 16 (2 ∷ 2 ∷ 0 ∷ []) (T.shows Halted 88 (pos 33) ("11" ∷ "11" ∷ "" ∷ []))))
+    ∷ row (T.program "loop X0\nloop X0\nX0 <- X0 + 1\nendloop X0\nendloop X0\n" 1024 (2 ∷ [])  -- its passes are not counted again
+    (gives loop-in-loop-word Halted 17 (8 ∷ []) (T.shows Halted 97 (pos 27) ("11111111" ∷ []))))
+    ∷ row (T.program "loop X0\nendloop X0\nloop X1\nendloop X1\n" 1024 (1 ∷ 0 ∷ [])  -- one counter for both
+    (gives two-loops-word Halted 3 (1 ∷ 0 ∷ []) (T.shows Halted 22 (pos 26) ("1" ∷ "" ∷ []))))
+    ∷ row (T.program "loop X0\nendloop X0\n" 3 (3 ∷ [])
+    (gives empty-loop-word Halted 4 (3 ∷ []) (T.shows Halted 34 (pos 14) ("111" ∷ []))))
+    ∷ row (T.program "while X0 != 0\nendwhile X0 != 0\n" 1024 (0 ∷ [])
+    (gives empty-while-word Halted 1 (0 ∷ []) (T.shows Halted 3 (pos 6) ("" ∷ []))))
+    ∷ row (T.program "X0 <- X1\n" 2 (0 ∷ 2 ∷ [])
+    (gives filling-copy-word Halted 1 (2 ∷ 2 ∷ []) (T.shows Halted 21 (pos 14) ("11" ∷ "11" ∷ []))))
+    ∷ row (T.program "X0 <- X1\n" 2 (0 ∷ 3 ∷ [])  -- a copy that doesn't fit, from values that rule 9 turns down
+    (gives filling-copy-word Full 0 (0 ∷ 3 ∷ []) (T.shows Full 12 (pos 7) ("11" ∷ "" ∷ []))))
+    ∷ row (T.program "X0 <- X0 + 1\n" 2 (1 ∷ [])
+    (gives ("1###" ∷ "1#" ∷ []) Halted 1 (2 ∷ []) (T.shows Halted 2 (pos 3) ("11" ∷ []))))
+    ∷ row (T.program "X0 <- 0\n" 1024 (1 ∷ 7 ∷ [])  -- registers beyond its variables are empty
+    (gives ("1###" ∷ "1#####11###11####" ∷ []) Halted 1 (0 ∷ 7 ∷ []) (T.shows Halted 5 (pos 5) ("" ∷ "" ∷ []))))
+    ∷ row (T.program "X31 <- 0\n" 1024 (0 ∷ [])  -- the last index
+    (gives ("1###" ∷ "11111111111111111111111111111111#####11###11####" ∷ []) Halted 1 (0 ∷ []) (T.shows Halted 3 (pos 5) ("" ∷ []))))
+    ∷ []
+
+-- In each line of a program of at most seven lines, with X3 at 4, X5 at 2, all others 0, and so many passes left
+abbrev pub along : ℕ → List SourceState
+along k = map (λ l. state 9 l (0 ∷ 0 ∷ 0 ∷ 4 ∷ 0 ∷ 2 ∷ []) (k ∷ [])) (1 ∷ 2 ∷ 3 ∷ 4 ∷ 5 ∷ 6 ∷ 7 ∷ [])
+
+-- "increment 1; clear of y 2y+2; copy of x over y 2y+7x+6; copy to itself 2; `loop` 7k+5, or 6 if k is 0; `endloop` 2 if passes remain,
+-- else 3; `while` 2; `endwhile` 1"
+unfoldable pub paid : List Example
+paid =
+    charges seven (along 2) (10 ∷ 1 ∷ 28 ∷ 33 ∷ 2 ∷ 2 ∷ 1 ∷ [])
+    ∷ charges seven (along 1) (10 ∷ 1 ∷ 28 ∷ 33 ∷ 3 ∷ 2 ∷ 1 ∷ [])
+    ∷ charges "X5 <- X3\nX3 <- X3\nX0 <- 0\nloop X0\nendloop X0\n" (along 1) (38 ∷ 2 ∷ 2 ∷ 6 ∷ 3 ∷ 0 ∷ 0 ∷ [])
+    ∷ []
+
+-- The end of a run of a source, its steps, line, first values and passes left
+abbrev pub stands : End → ℕ → ℕ → List ℕ → List ℕ → SourceShown
+stands e n l v k = record { end = e; steps = n; line = l; values = v; passes = k }
+
+-- Runs of sources: the order of the checks, and the count
+unfoldable pub ends : List Example
+ends =
+    runs "X0 <- X0 + 1\n" (fresh 1024 0 (0 ∷ [])) 1 (stands Halted 1 2 (1 ∷ []) [])  -- halted on the last step of the budget
+    ∷ runs "X0 <- X0 + 1\n" (fresh 1024 0 (0 ∷ [])) 0 (stands Spent 0 1 (0 ∷ []) [])
+    ∷ runs "X0 <- X0 + 1\n" (fresh 2 0 (2 ∷ [])) 0 (stands Spent 0 1 (2 ∷ []) [])  -- spent before full
+    ∷ runs "X0 <- X0 + 1\n" (fresh 2 0 (2 ∷ [])) 1 (stands Full 0 1 (2 ∷ []) [])
+    ∷ runs "X0 <- X0 + 1\n" (fresh 2 4294967295 (2 ∷ [])) 1 (stands Spent 0 1 (2 ∷ []) [])
+    ∷ runs "X0 <- X0 + 1\n" (fresh 2 0 (1 ∷ [])) 7 (stands Halted 1 2 (2 ∷ []) [])  -- a capacity filled exactly
+    ∷ runs "X0 <- X1\n" (fresh 2 0 (0 ∷ 2 ∷ [])) 7 (stands Halted 1 2 (2 ∷ 2 ∷ []) [])
+    ∷ runs "" (fresh 1024 4294967295 []) 0 (stands Halted 0 1 [] [])  -- halted before spent
+    ∷ runs "X0 <- 0\n" (fresh 1024 4294967295 (1 ∷ [])) 7 (stands Spent 0 1 (1 ∷ []) [])  -- the count at its end
+    ∷ runs "X0 <- 0\nX0 <- 0\n" (fresh 1024 4294967294 (1 ∷ [])) 7 (stands Spent 1 2 (0 ∷ []) [])
+    ∷ runs "X0 <- 0\n" (fresh 1024 4294967294 (1 ∷ [])) 7 (stands Halted 1 2 (0 ∷ []) [])
+    ∷ []
+
+-- Runs of sources: loops
+unfoldable pub loops : List Example
+loops =
+    runs "while X0 != 0\nendwhile X0 != 0\n" (fresh 1024 0 (1 ∷ [])) 100 (stands Spent 100 1 (1 ∷ []) [])
+    ∷ runs "loop X0\nendloop X0\n" (fresh 3 0 (3 ∷ [])) 100 (stands Halted 4 3 (3 ∷ []) (0 ∷ []))  -- an empty body: the `endloop` alone
+    ∷ runs "loop X0\nendloop X0\n" (fresh 3 0 (3 ∷ [])) 2 (stands Spent 2 2 (3 ∷ []) (2 ∷ []))
+    ∷ runs nested (fresh 9 0 (0 ∷ [])) 9 (stands Halted 1 5 (0 ∷ []) (0 ∷ 0 ∷ []))  -- passes left stay 0
+    ∷ runs nested (fresh 9 0 (2 ∷ [])) 3 (stands Spent 3 3 (2 ∷ []) (2 ∷ 1 ∷ []))
+    ∷ runs nested (fresh 9 0 (2 ∷ [])) 5 (stands Spent 5 2 (2 ∷ []) (1 ∷ 0 ∷ []))
+    ∷ runs nested (fresh 9 0 (2 ∷ [])) 99 (stands Halted 9 5 (2 ∷ []) (0 ∷ 0 ∷ []))
+    ∷ runs nested (state 9 3 (2 ∷ []) (1 ∷ 1 ∷ [])) 99 (stands Halted 2 5 (2 ∷ []) (0 ∷ 0 ∷ []))
+    ∷ runs loop-in-while (fresh 9 0 (2 ∷ [])) 3 (stands Spent 3 4 (0 ∷ []) (2 ∷ 0 ∷ []))  -- its loop is inside no other
+    ∷ []
+
+-- Where a machine stands; the end of a run of a word, its steps, its place and the memory
+abbrev pub at : ℤ → ℕ → Position
+at q n = record { place = q; steps = n }
+
+abbrev pub leaves : End → ℕ → ℤ → Memory → WordShown
+leaves e n q m = record { end = e; steps = n; place = q; memory = m }
+
+-- Runs of words: the order of the checks, and the count
+unfoldable pub word-ends : List Example
+word-ends =
+    word-runs "1#" (register 2 "1\0" (1 ∷ [])) (at (pos 1) 0) 1 (leaves Halted 1 (pos 2) (register 2 "11" (2 ∷ [])))
+    ∷ word-runs "1#" (register 2 "1\0" (1 ∷ [])) (at (pos 1) 0) 0 (leaves Spent 0 (pos 1) (register 2 "1\0" (1 ∷ [])))
+    ∷ word-runs "1#" (register 2 "##" (2 ∷ [])) (at (pos 1) 0) 0 (leaves Spent 0 (pos 1) (register 2 "##" (2 ∷ [])))
+    ∷ word-runs "1##" (register 2 "11" (2 ∷ [])) (at (pos 1) 0) 7 (leaves Full 0 (pos 1) (register 2 "11" (2 ∷ [])))
+    ∷ word-runs "1#" (register 2 "11" (2 ∷ [])) (at (pos 1) 4294967295) 7 (leaves Spent 0 (pos 1) (register 2 "11" (2 ∷ [])))
+    ∷ word-runs "1#" (register 2 "\0\0" (0 ∷ [])) (at (pos 1) 4294967294) 7 (leaves Halted 1 (pos 2) (register 2 "1\0" (1 ∷ [])))
+    ∷ word-runs "1#1#" (register 2 "\0\0" (0 ∷ [])) (at (pos 1) 4294967294) 7 (leaves Spent 1 (pos 2) (register 2 "1\0" (1 ∷ [])))
+    ∷ word-runs "1#" (register 1 "1" (1 ∷ [])) (at (pos 2) 4294967295) 0 (leaves Halted 0 (pos 2) (register 1 "1" (1 ∷ [])))
+    ∷ word-runs "1#" (register 1 "1" (1 ∷ [])) (at (pos 3) 4294967295) 0 (leaves Strayed 0 (pos 3) (register 1 "1" (1 ∷ [])))
+    ∷ word-runs "1#" (register 1 "1" (1 ∷ [])) (at (negsuc 4) 0) 7 (leaves Strayed 0 (negsuc 4) (register 1 "1" (1 ∷ [])))
+    ∷ []
+
+-- Runs of words: what the store then holds, places before the word, and the value
+unfoldable pub word-steps : List Example
+word-steps =
+    word-runs "1#####" (register 3 "#1\0" (2 ∷ [])) (at (pos 1) 0) 7 (leaves Strayed 1 (pos 4) (register 3 "1\0\0" (1 ∷ [])))
+    ∷ word-runs "1#1#####" (register 3 "##\0" (2 ∷ [])) (at (pos 2) 5) 1 (leaves Strayed 1 (pos 5) (register 3 "#\0\0" (1 ∷ [])))
+    ∷ word-runs "11#1#####" (several 2 "1#\0\0" (2 ∷ 0 ∷ [])) (at (pos 1) 0) 2 (leaves Strayed 2 (pos 4) (several 2 "#\01\0" (1 ∷ 1 ∷ [])))
+    ∷ word-runs "1#1#" (register 2 "\0\0" (0 ∷ [])) (at (pos 1) 0) 1 (leaves Spent 1 (pos 2) (register 2 "1\0" (1 ∷ [])))  -- a step
+    ∷ word-runs "1111####" (register 1 "\0" (0 ∷ [])) (at (pos 1) 0) 7 (leaves Strayed 1 (negsuc 2) (register 1 "\0" (0 ∷ [])))
+    ∷ valued "1###" (pos 2) ("1#" ∷ "1" ∷ []) (some (bytes "1#"))
+    ∷ valued "1###" (pos 1) ("1#" ∷ "1" ∷ []) none
+    ∷ valued "1###" (pos 3) ("1#" ∷ "1" ∷ []) none
+    ∷ valued "1###" (negsuc 0) ("1#" ∷ "1" ∷ []) none
+    ∷ []
+
+-- A line of the run tool, of how the source and the word ended
+abbrev pub printed-line : End → ℕ → ℕ → End → ℕ → ℕ → Bytes
+printed-line e n x e′ m y = shown
+    (record { end = e; steps = n; state = fresh-source (λ i. x) })
+    (record { end = e′; steps = m; state = fresh-word 1 (λ i. y) })
+
+abbrev pub header : String
+header = "source-end source-steps word-end word-steps X0\n"
+
+-- A program whose word has 65,526 + i symbols, i from 0 to 31: 263 copies of 249 each, an increment of 33, and one of i + 2
+abbrev pub long : ℕ → Bytes
+long i = times 263 (bytes "X31 <- X30\n") ++ (bytes "X31 <- X31 + 1\n" ++ (spelling (plain (increment i)) ++ bytes "\n"))
+
+-- What the run tool prints
+unfoldable pub reports : List Example
+reports =
+    prints [] [] "refused 16 0\n"  -- files that can't be read count as empty
+    ∷ prints (bytes "X0 <- 1\n") [] "refused 4 1\n"  -- the program before the sheet
+    ∷ prints (bytes "X0 <- X3\n") (bytes "X4\n") "refused 17 1\n"  -- K by the source of a copy
+    ∷ prints (bytes "X0 <- X3\n") (bytes "X3\n") header  -- no runs
+    ∷ prints [] (bytes "\n") header
+    ∷ prints (bytes "X0 <- 0\n") (bytes "X0\n1\nz\n") "refused 16 3\n"  -- all or nothing
+    ∷ prints (long 10) (bytes "\n") header  -- a word of 65,536 symbols
+    ∷ prints (long 11) (bytes "\n") "refused 19 0\n"  -- one symbol more, also without runs
+    ∷ prints (long 11) (bytes "X0\n1025\n") "refused 18 2\n"  -- 18 before 19
+    ∷ spelled (end-name Halted ++ end-name Strayed ++ end-name Spent ++ end-name Full) "haltedstrayedspentfull"
+    ∷ spelled (printed-line Spent 100000 5 Halted 73 2) "spent 100000 halted 73 5\n"  -- the source's X0, whatever its end
+    ∷ []
+
+-- The runs that it prints
+unfoldable pub printed-runs : List Example
+printed-runs =
+    prints [] (bytes "\n\n") "source-end source-steps word-end word-steps X0\nhalted 0 halted 1 0\n"
+    ∷ prints (bytes "X0 <- X0 + 1\n") (bytes "X0\n1024\n") "source-end source-steps word-end word-steps X0\nfull 0 full 1 1024\n"
+    ∷ prints (bytes "X0 <- X1\n") (bytes "X1 X0\n7 2\n") "source-end source-steps word-end word-steps X0\nhalted 1 halted 60 7\n"
+    ∷ []
+
+-- Its budgets: endless runs
+unfoldable pub budgets : List Example
+budgets =
+    prints (bytes "while X0 != 0\nendwhile X0 != 0\n") (bytes "X0\n1\n")
+    "source-end source-steps word-end word-steps X0\nspent 100000 spent 1000000 1\n"
+    ∷ []
+
+-- All of them
+unfoldable pub results : List (List Example)
+results = outputs ∷ programs ∷ paid ∷ ends ∷ loops ∷ word-ends ∷ word-steps ∷ reports ∷ printed-runs ∷ budgets ∷ []

@@ -1,0 +1,5 @@
+pub mod Stores
+pub mod Tallies
+pub mod Copies
+pub mod Gathers
+pub mod Turns

@@ -1,0 +1,84 @@
+-- `state_of` meets its contract. Each part that is copied is a part of the numbers, where there are 51.
+use borrow.Author.Needs.{needs}
+use borrow.Author.Tests.{eq-eqb, ne-eqb}
+use lib.ListN.{length}
+use Rattle.states.specs.Numbers.{state-of, lent-state}
+use Rattle.states.proofs.numbers.state_of.Statement.{statement}
+use Rattle.states.proofs.numbers.state_of.Tie as tie
+
+fresh-requires : tie.Need-fresh-requires
+fresh-requires c κs = search needs
+
+returns : tie.Need-returns
+unfolding lent-state
+returns c =
+    let numbers = c .before .before .before .args .numbers .now in
+    rw (ne-eqb (length numbers) 51 (c .before .if1 .taken)) (c .fresh .ensures .state)
+
+sub-copy : tie.Need-sub-copy
+sub-copy c = search needs
+
+part-copy-start : tie.Need-part-copy-start
+part-copy-start c = search needs
+
+part-copy-end : tie.Need-part-copy-end
+part-copy-end c = search needs
+
+slice-aggregate-copy : tie.Need-slice-aggregate-copy
+slice-aggregate-copy c = search needs
+
+copy-requires : tie.Need-copy-requires
+copy-requires c κs = search needs
+
+sub-copy-2 : tie.Need-sub-copy-2
+sub-copy-2 c = search needs
+
+part-copy-start-2 : tie.Need-part-copy-start-2
+part-copy-start-2 c = search needs
+
+part-copy-end-2 : tie.Need-part-copy-end-2
+part-copy-end-2 c = search needs
+
+slice-aggregate-copy-2 : tie.Need-slice-aggregate-copy-2
+slice-aggregate-copy-2 c = search needs
+
+copy-requires-2 : tie.Need-copy-requires-2
+copy-requires-2 c κs = search needs
+
+shared-slice-read-capacity : tie.Need-shared-slice-read-capacity
+shared-slice-read-capacity c = search needs
+
+shared-slice-read-line : tie.Need-shared-slice-read-line
+shared-slice-read-line c = search needs
+
+shared-slice-read-steps : tie.Need-shared-slice-read-steps
+shared-slice-read-steps c = search needs
+
+returns-2 : tie.Need-returns-2
+unfolding lent-state state-of
+returns-2 c =
+    let at-passes : tie.After-copy2 = c .before .before .before .before in
+    let test : tie.Else1 = at-passes .before .before .before .before .before .before .before in
+    let is : _ = eq-eqb (length (test .before .before .args .numbers .now)) 51 (test .if1 .left) in
+    rw (is, at-passes .before .before .before .before .copy .ensures, at-passes .copy2 .ensures)
+
+pub state-of-spec : {M : Type 1} → statement M
+state-of-spec =
+    tie.close
+    (tie.spec
+    fresh-requires
+    returns
+    sub-copy
+    part-copy-start
+    part-copy-end
+    slice-aggregate-copy
+    copy-requires
+    sub-copy-2
+    part-copy-start-2
+    part-copy-end-2
+    slice-aggregate-copy-2
+    copy-requires-2
+    shared-slice-read-capacity
+    shared-slice-read-line
+    shared-slice-read-steps
+    returns-2)

@@ -1,0 +1,75 @@
+-- What the functions inside this crate count of a table and write of it.
+use mathlib.Core.Path.{_≡_}
+use mathlib.Core.Bool.{Bool, cond, not, _||_}
+use mathlib.Core.List.{List, [], _∷_, _++_}
+use Prim.Native.Nat.{ℕ, suc, _+_, _≤_, _<_, min}
+use lib.ListN.{length, getD, replicate}
+use lib.Seq.{sets}
+use lib.Dec.{eqb, ltb}
+use Rattle.theory.specs.Limits
+use Rattle.theory.specs.Word.{Entry, spell-entries, bytes-of}
+use Rattle.theory.specs.Machines.{is-limited}
+use Rattle.theory.specs.TurnedDown.{total}
+use Rattle.text.specs.Runs.{leading}
+use Rattle.word.specs.declared.answers.Read.{Read}
+use Rattle.word.specs.declared.answers.Read.the-variants.{Done, Refused}
+use Rattle.table.specs.declared.tally.Tally.{Tally}
+
+-- An entry that rule 13 turns down, and one that it lets pass
+abbrev pub is-bad : Entry → Bool
+is-bad e = not (is-limited 5 (e .kind)) || eqb (e .operand) 0
+
+abbrev pub is-good : Entry → Bool
+is-good e = not (is-bad e)
+
+-- Of a table: its symbols, or one more than a word may have; how many entries are good before the first that is not; how many there are
+unfoldable pub tally-of : List Entry → Tally
+tally-of t = record { size = min (total t) (suc Limits.most-symbols); good = leading is-good t; count = length t }
+
+-- The largest count
+abbrev pub longest : ℕ
+longest = 18446744073709551615
+
+-- The tally with one entry more; a count stays at the largest
+unfoldable pub noted : Tally → Entry → Tally
+noted s e = record {
+  size = min (s .size + e .operand + e .kind) (suc Limits.most-symbols);
+  good = cond (ltb (s .good) (s .count)) (s .good) (cond (is-good e) (min (s .count + 1) longest) (s .good));
+  count = min (s .count + 1) longest;
+}
+
+-- Rules 11, 13 and 14, by the tally
+unfoldable pub judged : Tally → Read
+judged s =
+    cond (eqb (s .count) 0) (Refused (record { number = 11; place = 0 }))
+    (cond (ltb Limits.most-symbols (s .size)) (Refused (record { number = 11; place = 0 }))
+    (cond (ltb (s .good) (s .count)) (Refused (record { number = 13; place = s .good }))
+    (cond (ltb Limits.most-instructions (s .count)) (Refused (record { number = 14; place = Limits.most-instructions }))
+    (Done (s .count)))))
+
+-- A kind that rule 13 lets pass
+pub record IsKind (kind : ℕ) : Type 0 where
+  pub first : 1 ≤ kind
+  pub last : kind ≤ 5
+
+abbrev pub sum : List ℕ → ℕ
+sum [] = 0
+sum (n ∷ ns) = n + sum ns
+
+-- A table whose entries are all good, of so many symbols at most
+pub record AllGood (most : ℕ) (t : List Entry) : Type 0 where
+  pub each : leading is-good t ≡ length t
+  pub symbols : total t ≤ most
+
+-- Operands that rule 13 lets pass, and their sum
+pub record Summed (operands : List ℕ) (total : ℕ) : Type 0 where
+  pub each : (j : ℕ) → j < length operands → 1 ≤ getD operands j 0
+  pub size : sum operands ≡ total
+
+-- The bytes of an entry: its operand times 1, and then its kind times #
+abbrev pub entry-bytes : Entry → List ℕ
+entry-bytes e = replicate (e .operand) 49 ++ replicate (e .kind) 35
+
+-- A word with the entries of a table spelled from its start on
+unfoldable pub spelt : List Entry → List ℕ → List ℕ
+spelt t word = sets word 0 (bytes-of (spell-entries t))
