@@ -1,6 +1,8 @@
 # What ./run and ./label share: a tool is built where that is needed, and run in a folder. To be sourced.
 # shellcheck shell=bash
 here=$(cd "$(dirname "${BASH_SOURCE[0]}")" && pwd)
+# shellcheck source=scratch.sh
+. "$here/scratch.sh"
 
 say() { printf '%s\n' "$*" >&2; }
 
@@ -38,7 +40,7 @@ build() {
         else
             break
         fi
-    done < <(cd "$here" && rt check "$tool" 2>&1 | tee "$log")
+    done < <(cd "$here" && in_memory rt check "$tool" 2>&1 | tee "$log")
     tail -n 1 "$log" | grep -q '^rt: ok' && return
     cat "$log" >&2
     return 1

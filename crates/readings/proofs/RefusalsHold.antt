@@ -25,19 +25,19 @@ unfolding refusals limits texts spellings almost pairs lists words tables machin
     D.table-fault D.read-table D.read-table-for H.names H.values H.start D.sheet-size-fault D.rows-fault D.sheet-fault
 refusals-hold =
     let a : Hold limits = (refl, tt) in
-    let b : Hold texts = (refl, (refl, (refl, (refl, (refl, (refl, (refl, (refl, (refl, (refl, tt)))))))))) in
+    let b : Hold texts = (refl, (refl, (refl, (refl, (refl, (refl, (refl, (refl, tt)))))))) in
     let c : Hold spellings = (refl, (refl, (refl, (refl, (refl, (refl, (refl, (refl, (refl, (refl, (refl, (refl, tt)))))))))))) in
     let d : Hold almost = (refl, (refl, (refl, (refl, (refl, (refl, (refl, (refl, (refl, (refl, (refl, tt))))))))))) in
     let e : Hold pairs = (refl, (refl, (refl, (refl, (refl, (refl, (refl, (refl, (refl, (refl, (refl, (refl, tt)))))))))))) in
     let f : Hold lists = (refl, (refl, (refl, (refl, (refl, (refl, (refl, (refl, (refl, (refl, (refl, (refl, tt)))))))))))) in
-    let g : Hold words = (refl, (refl, (refl, (refl, (refl, (refl, (refl, (refl, (refl, (refl, (refl, tt))))))))))) in
-    let h : Hold tables = (refl, (refl, (refl, (refl, (refl, (refl, (refl, (refl, (refl, (refl, (refl, tt))))))))))) in
-    let i : Hold machines = (refl, (refl, (refl, (refl, (refl, (refl, (refl, (refl, (refl, (refl, (refl, tt))))))))))) in
+    let g : Hold words = (refl, (refl, (refl, (refl, (refl, (refl, (refl, (refl, tt)))))))) in
+    let h : Hold tables = (refl, (refl, (refl, (refl, (refl, (refl, (refl, tt))))))) in
+    let i : Hold machines = (refl, (refl, (refl, (refl, (refl, (refl, (refl, (refl, (refl, (refl, tt)))))))))) in
     let j : Hold places = (refl, (refl, (refl, (refl, (refl, (refl, (refl, (refl, (refl, (refl, (refl, (refl, tt)))))))))))) in
     let k : Hold states = (refl, (refl, (refl, (refl, (refl, (refl, (refl, (refl, (refl, (refl, tt)))))))))) in
     let l : Hold memories = (refl, (refl, (refl, (refl, (refl, (refl, (refl, (refl, (refl, (refl, tt)))))))))) in
     let m : Hold layouts = (refl, (refl, (refl, (refl, (refl, (refl, (refl, (refl, (refl, (refl, tt)))))))))) in
-    let n : Hold sheets = (refl, (refl, (refl, (refl, (refl, (refl, (refl, (refl, (refl, (refl, (refl, (refl, tt)))))))))))) in
+    let n : Hold sheets = (refl, (refl, (refl, (refl, (refl, (refl, (refl, (refl, (refl, (refl, tt)))))))))) in
     let o : Hold named = (refl, (refl, (refl, (refl, (refl, (refl, (refl, (refl, (refl, (refl, (refl, tt))))))))))) in
     let p : Hold lines = (refl, (refl, (refl, (refl, (refl, (refl, (refl, (refl, (refl, (refl, (refl, tt))))))))))) in
     (a, (b, (c, (d, (e, (f, (g, (h, (i, (j, (k, (l, (m, (n, (o, (p, tt))))))))))))))))

@@ -40,7 +40,7 @@ results-hold =
     let e : Hold loops = (refl, (refl, (refl, (refl, (refl, (refl, (refl, (refl, (refl, tt))))))))) in
     let f : Hold word-ends = (refl, (refl, (refl, (refl, (refl, (refl, (refl, (refl, (refl, (refl, tt)))))))))) in
     let g : Hold word-steps = (refl, (refl, (refl, (refl, (refl, (refl, (refl, (refl, (refl, tt))))))))) in
-    let h : Hold reports = (refl, (refl, (refl, (refl, (refl, (refl, (refl, (refl, (refl, (refl, (refl, tt))))))))))) in
+    let h : Hold reports = (refl, (refl, (refl, (refl, (refl, (refl, (refl, (refl, tt)))))))) in
     let i : Hold printed-runs = (refl, (refl, (refl, tt))) in
     let j : Hold budgets = budgets-hold in
     (a, (b, (c, (d, (e, (f, (g, (h, (i, (j, tt))))))))))

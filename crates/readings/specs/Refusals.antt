@@ -28,8 +28,6 @@ texts =
     ∷ text (bytes "z") (refuse 2 1)
     ∷ text (bytes "X0 <- 0\t") (refuse 2 1)
     ∷ text (replicate 513 LF ++ bytes "z") (refuse 2 514)  -- 2 before 3, its place not bounded
-    ∷ text (replicate 16383 LF ++ bytes "z") (refuse 2 16384)
-    ∷ text (replicate 16385 0) (refuse 1 0)
     ∷ text (replicate 600 LF) (refuse 3 513)  -- 3 before 4, its place fixed
     ∷ text (bytes "\n") (refuse 4 1)  -- an empty line is no spelling
     ∷ text (bytes "X0 <- 0\n\n") (refuse 4 2)
@@ -113,9 +111,6 @@ words =
     ∷ word (bytes "#1") (refuse 13 0)
     ∷ word (bytes "11#1") (refuse 13 4)  -- the length
     ∷ word (bytes "1#####11######") (refuse 13 13)
-    ∷ word (times 8192 (bytes "1#")) passes
-    ∷ word (times 8193 (bytes "1#")) (refuse 14 16384)
-    ∷ word (times 8193 (bytes "1#") ++ bytes "1") (refuse 13 16387)  -- 13 before 14
     ∷ []
 
 -- Tables, rules 11, 13 and 14
@@ -128,10 +123,6 @@ tables =
     ∷ entries (entry 1 18446744073709551615 ∷ entry 1 1 ∷ []) (refuse 11 0)
     ∷ entries (entry 1 0 ∷ []) (refuse 13 0)
     ∷ entries (entry 1 1 ∷ entry 6 1 ∷ []) (refuse 13 1)
-    ∷ entries (replicate 8193 (entry 0 0)) (refuse 13 0)  -- a sum of 0 is not 11
-    ∷ entries (replicate 8192 (entry 1 1)) passes
-    ∷ entries (replicate 8193 (entry 1 1)) (refuse 14 8192)
-    ∷ entries (replicate 8193 (entry 1 1) ++ (entry 0 1 ∷ [])) (refuse 13 8193)  -- 13 anywhere before 14
     ∷ []
 
 -- Words and tables on a machine, rule 15
@@ -142,7 +133,6 @@ machines =
     ∷ machine 1 (bytes "1#11#####") (refuse 15 2)
     ∷ machine 2 (bytes "1#11#####") passes
     ∷ machine 1 (bytes "111###11####") passes  -- transfers name no register
-    ∷ machine 1 (bytes "11#" ++ times 8192 (bytes "1#")) (refuse 14 16385)  -- 14 before 15
     ∷ word (times 65 (bytes "1") ++ bytes "#") passes  -- without a machine no 15
     ∷ machine 64 (times 65 (bytes "1") ++ bytes "#") (refuse 15 0)
     ∷ table 1 (entry 3 2 ∷ entry 1 2 ∷ []) (refuse 15 1)
@@ -217,8 +207,6 @@ unfoldable pub sheets : List Example
 sheets =
     sheet 2 [] (refuse 16 0)
     ∷ sheet 2 (bytes "X9") (refuse 16 0)  -- sizes first
-    ∷ sheet 0 (replicate 4096 LF) passes  -- 4,095 runs
-    ∷ sheet 0 (replicate 4097 LF) (refuse 16 0)
     ∷ sheet 2 (bytes "X99 y\n") (refuse 16 1)  -- the whole line's shape first
     ∷ sheet 2 (bytes "X01\n") (refuse 16 1)
     ∷ sheet 2 (bytes "X0  X1\n") (refuse 16 1)

@@ -6,7 +6,7 @@ use Prim.Native.String.{String}
 use lib.IntN.{ℤ, pos, negsuc}
 use lib.ListN.{replicate}
 use Rattle.theory.specs.Text.{Bytes, bytes}
-use Rattle.theory.specs.ProgramText.{plain, increment, spelling, list-of, text-of}
+use Rattle.theory.specs.ProgramText.{list-of, text-of}
 use Rattle.theory.specs.Translation.{word-text}
 use Rattle.theory.specs.Machines.{fresh-source, fresh-word, SourceState, Memory, Position}
 use Rattle.theory.specs.TurnedDown.{Answer, mapped, refuse}
@@ -16,7 +16,7 @@ use Rattle.theory.specs.declared.End.{End}
 use Rattle.theory.specs.declared.End.the-variants.{Halted, Strayed, Spent, Full}
 use Rattle.bench.specs.Table as T
 use Rattle.readings.specs.Example.{Example, output, fills, row, charges, runs, word-runs, valued, spelled, prints, SourceShown}
-use Rattle.readings.specs.Example.{WordShown, times, passes, entry, state, fresh, nested, loop-in-while, register, several}
+use Rattle.readings.specs.Example.{WordShown, passes, entry, state, fresh, nested, loop-in-while, register, several}
 
 -- A program as a list, its word, and the text of a list
 abbrev pub list-for : String → Answer (List ℕ)
@@ -210,10 +210,6 @@ printed-line e n x e′ m y = shown
 abbrev pub header : String
 header = "source-end source-steps word-end word-steps X0\n"
 
--- A program whose word has 65,526 + i symbols, i from 0 to 31: 263 copies of 249 each, an increment of 33, and one of i + 2
-abbrev pub long : ℕ → Bytes
-long i = times 263 (bytes "X31 <- X30\n") ++ (bytes "X31 <- X31 + 1\n" ++ (spelling (plain (increment i)) ++ bytes "\n"))
-
 -- What the run tool prints
 unfoldable pub reports : List Example
 reports =
@@ -223,9 +219,6 @@ reports =
     ∷ prints (bytes "X0 <- X3\n") (bytes "X3\n") header  -- no runs
     ∷ prints [] (bytes "\n") header
     ∷ prints (bytes "X0 <- 0\n") (bytes "X0\n1\nz\n") "refused 16 3\n"  -- all or nothing
-    ∷ prints (long 10) (bytes "\n") header  -- a word of 65,536 symbols
-    ∷ prints (long 11) (bytes "\n") "refused 19 0\n"  -- one symbol more, also without runs
-    ∷ prints (long 11) (bytes "X0\n1025\n") "refused 18 2\n"  -- 18 before 19
     ∷ spelled (end-name Halted ++ end-name Strayed ++ end-name Spent ++ end-name Full) "haltedstrayedspentfull"
     ∷ spelled (printed-line Spent 100000 5 Halted 73 2) "spent 100000 halted 73 5\n"  -- the source's X0, whatever its end
     ∷ []
