@@ -7,7 +7,8 @@ use Rattle.theory.specs.Runs.{Outcome}
 use Rattle.theory.specs.Source as S
 use Rattle.theory.specs.Word.{Entry}
 use Rattle.theory.specs.TurnedDown.{Answer, done, refused}
-use Rattle.program.specs.Answers as Programs
+use Rattle.list.specs.Answers as Programs
+use Rattle.program.specs.Answers.{written}
 use Rattle.word.specs.Answers.{read-answer, written-answer}
 use Rattle.translation.specs.Answers as Translations
 use Rattle.source.specs.Answers.{ended-by}
@@ -19,7 +20,7 @@ unfolding packed
 packs-program-read (done p) = refl
 packs-program-read (refused r) = refl
 
-pub packs-program-written : (a : Answer (List ℕ)) → program-written (Programs.written a) ≡ packed count a
+pub packs-program-written : (a : Answer (List ℕ)) → program-written (written a) ≡ packed count a
 unfolding packed
 packs-program-written (done l) = refl
 packs-program-written (refused r) = refl

@@ -1,8 +1,8 @@
 -- The number of what each crate hands back as a value of its own type. proofs/Packs: it is that of the answer for which the value stands.
 use Prim.Native.Nat.{ℕ}
 use Rattle.theory.specs.declared.Refusal.{Refusal}
-use Rattle.program.specs.declared.Checked.{Checked}
-use Rattle.program.specs.declared.Checked.the-variants as Checked
+use Rattle.list.specs.declared.Checked.{Checked}
+use Rattle.list.specs.declared.Checked.the-variants as Checked
 use Rattle.program.specs.declared.Written as Program
 use Rattle.program.specs.declared.Written.the-variants as ProgramWritten
 use Rattle.word.specs.declared.answers.Read.{Read}

@@ -21,7 +21,7 @@ use Rattle.theory.proofs.Lists.{numbers-of}
 use Rattle.theory.proofs.Texts.{text-accepted}
 use Rattle.output.specs.Puts.{most, Put}
 use Rattle.spelling.specs.Spellings.{command-line}
-use Rattle.program.proofs.ListCheck.{three-at}
+use Rattle.list.proofs.ListCheck.{three-at}
 use Rattle.output.proofs.Puts.{put-nothing, put-then}
 use Rattle.spelling.proofs.Spellings.{line-spelled}
 

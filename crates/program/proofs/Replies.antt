@@ -1,5 +1,5 @@
 -- What the entries hand back, from what was read: the answer, and what then stands in the lent memory.
-use mathlib.Core.Path.{_≡_, refl, sym, ap, _∙_}
+use mathlib.Core.Path.{_≡_, sym, ap, _∙_}
 use mathlib.Core.Bool.{true, false, _||_}
 use mathlib.Core.Option.{none}
 use mathlib.Core.List.{List, _++_}
@@ -13,30 +13,22 @@ use Rattle.theory.specs.TurnedDown.{read-program-into, write-program-into}
 use Rattle.theory.specs.Text.{Bytes, ends-in-LF}
 use Rattle.theory.specs.Basics.{present}
 use Rattle.theory.specs.ProgramText.{Command, list-of, text-of, listed}
-use Rattle.theory.specs.TurnedDown.{Answer, done, refused, mapped, rule-19, program-fault, read-text, read-list, lent-after}
+use Rattle.theory.specs.TurnedDown.{done, refused, mapped, rule-19, program-fault, read-text, read-list, lent-after}
 use Rattle.theory.specs.declared.Refusal.{Refusal}
 use Rattle.theory.proofs.Nesting.{list-read}
 use Rattle.theory.proofs.Lists.{lists-round-trip}
-use Rattle.program.specs.declared.Program.{Program}
-use Rattle.program.specs.declared.Checked.{Checked}
+use Rattle.list.specs.declared.Program.{Program}
+use Rattle.list.specs.declared.Checked.{Checked}
+use Rattle.list.specs.declared.Checked.the-variants as C
+use Rattle.list.specs.Answers.{program-of, checked}
+use Rattle.list.proofs.Replies.{checked-refused, checked-accepted}
 use Rattle.program.specs.declared.Written.{Written}
-use Rattle.program.specs.declared.Checked.the-variants as C
 use Rattle.program.specs.declared.Written.the-variants as W
-use Rattle.program.specs.Answers.{program-of, checked, written}
+use Rattle.program.specs.Answers.{written}
 use Rattle.program.specs.Lines.{Lined}
 use Rattle.output.specs.Puts.{Put}
 use Rattle.output.proofs.Puts.{sets-front}
 use Rattle.program.proofs.TextCheck.{refused-2, past-2, refused-3}
-
--- A check read back
-pub checked-refused : (a : Answer (List Command)) {c : Checked} {r : Refusal} → c ≡ checked a → c ≡ C.Refused r → a ≡ refused r
-checked-refused (done p) e f = cc
-checked-refused (refused q) e f = cc
-
-pub checked-accepted : (a : Answer (List Command)) {c : Checked} {q : Program} → c ≡ checked a → c ≡ C.Accepted q
-    → (p : List Command) × (a ≡ done p) × (q ≡ program-of p)
-checked-accepted (done p) e f = (p, refl, cc)
-checked-accepted (refused r) e f = let z : _≡_ {A = ℕ} 0 1 = cc in absurd (omega arith)
 
 -- What `read` promises
 abbrev pub Reads : Bytes → List ℕ → Checked → List ℕ → Type 0

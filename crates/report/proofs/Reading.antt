@@ -13,10 +13,10 @@ use Rattle.theory.specs.Claims.{Accepted}
 use Rattle.theory.specs.declared.Refusal.{Refusal}
 use Rattle.theory.proofs.Nesting.{short, few-variables, reads-accepted}
 use Rattle.theory.proofs.Lists.{lists-round-trip, commands-list}
-use Rattle.program.proofs.Lists.{list-length}
-use Rattle.program.specs.Answers.{program-of, checked}
-use Rattle.program.specs.declared.Program.{Program}
-use Rattle.program.specs.declared.Checked.the-variants as C
+use Rattle.list.proofs.Lists.{list-length}
+use Rattle.list.specs.Answers.{program-of, checked}
+use Rattle.list.specs.declared.Program.{Program}
+use Rattle.list.specs.declared.Checked.the-variants as C
 use Rattle.report.specs.Rows.{Listed}
 
 list-accepted : (p : List Command) → Accepted p → read-list (list-of p) ≡ done (commands (list-of p))

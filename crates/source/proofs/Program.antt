@@ -15,7 +15,7 @@ use Rattle.theory.proofs.Nesting.{short, sound, low, LowIndices, LinesSound, li
 use Rattle.theory.proofs.Cells.{each-at}
 use Rattle.theory.proofs.Partners.{Known, known, open-on, depth-end}
 use Rattle.theory.proofs.Lists.{commands-list}
-use Rattle.program.proofs.Lists.{list-length}
+use Rattle.list.proofs.Lists.{list-length}
 use Rattle.source.specs.Lines.{Holds, decoded, command-at}
 
 -- The list of an accepted program holds it

@@ -14,10 +14,10 @@ use Rattle.theory.specs.Claims.{Accepted}
 use Rattle.theory.specs.declared.Refusal.{Refusal}
 use Rattle.theory.proofs.Nesting.{short, list-read, reads-accepted}
 use Rattle.theory.proofs.Lists.{commands-list, lists-round-trip}
-use Rattle.program.specs.Answers.{program-of, checked}
-use Rattle.program.specs.declared.Program.{Program}
-use Rattle.program.specs.declared.Checked.the-variants as C
-use Rattle.program.proofs.Lists.{list-length}
+use Rattle.list.specs.Answers.{program-of, checked}
+use Rattle.list.specs.declared.Program.{Program}
+use Rattle.list.specs.declared.Checked.the-variants as C
+use Rattle.list.proofs.Lists.{list-length}
 use Rattle.source.specs.Lines.{Holds, Given}
 use Rattle.source.proofs.Program.{holds-list}
 

@@ -15,16 +15,16 @@ use Rattle.theory.specs.declared.Refusal.{Refusal}
 use Rattle.theory.specs.Claims.{Accepted}
 use Rattle.theory.proofs.Nesting.{reads-accepted, short, list-read}
 use Rattle.theory.proofs.Lists.{lists-round-trip}
-use Rattle.program.specs.Answers as P
-use Rattle.program.specs.declared.Program.{Program}
-use Rattle.program.specs.declared.Checked.{Checked}
-use Rattle.program.specs.declared.Checked.the-variants as C
-use Rattle.program.proofs.Replies.{checked-refused, checked-accepted}
+use Rattle.list.specs.Answers as P
+use Rattle.list.specs.declared.Program.{Program}
+use Rattle.list.specs.declared.Checked.{Checked}
+use Rattle.list.specs.declared.Checked.the-variants as C
+use Rattle.list.proofs.Replies.{checked-refused, checked-accepted}
 use Rattle.translation.specs.Answers.{size-of, Answered}
 use Rattle.translation.specs.Sites.{Known}
 use Rattle.translation.specs.declared.Size.{Size}
 use Rattle.translation.specs.declared.Translated.the-variants as T
-use Rattle.program.proofs.Lists.{list-length}
+use Rattle.list.proofs.Lists.{list-length}
 
 -- It was refused; it has no room; it is written
 pub answered-refused : (A : Answer (List Command)) (r : Refusal) (out : List ℕ) → A ≡ refused r → Answered A out out (T.Refused r)

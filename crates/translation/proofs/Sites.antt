@@ -19,7 +19,7 @@ use Rattle.theory.proofs.Nesting.{nest, reads-accepted, short, few-variables, w
 use Rattle.theory.proofs.Sizes.{code-length, code-weight}
 use Rattle.theory.proofs.Lists.{lists-round-trip}
 use Rattle.theory.specs.ProgramText.{commands}
-use Rattle.program.proofs.Lists.{list-length}
+use Rattle.list.proofs.Lists.{list-length}
 use Rattle.translation.specs.Pieces.{numbers-at, Says}
 use Rattle.translation.specs.declared.lines.Line.{Line}
 use Rattle.translation.specs.Sites.{block-at, goes-on, first, rest, pairs-deep, symbols-of, Accepts, Known, Site}

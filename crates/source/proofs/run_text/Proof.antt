@@ -9,8 +9,8 @@ use lib.ListN.{length, take, replicate}
 use lib.Seq.{length-take-le}
 use Rattle.theory.specs.TurnedDown.{read-text}
 use Rattle.theory.specs.ProgramText.{commands}
-use Rattle.program.specs.Answers.{checked}
-use Rattle.program.specs.declared.Program.{Program}
+use Rattle.list.specs.Answers.{checked}
+use Rattle.list.specs.declared.Program.{Program}
 use Rattle.source.specs.Lines.{Given}
 use Rattle.source.proofs.Results.{refused-back}
 use Rattle.source.proofs.Reading.{AcceptedAs, accepted-as, refused-as, buffer-read, numbers-few, text-given, text-program}

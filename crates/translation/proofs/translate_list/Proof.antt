@@ -1,7 +1,7 @@
 -- `translate_list` meets its contract: what the check says of the list is what it is read as.
 use borrow.Author.Needs.{needs}
 use Rattle.theory.specs.TurnedDown.{read-list}
-use Rattle.program.proofs.Replies.{checked-refused, checked-accepted}
+use Rattle.list.proofs.Replies.{checked-refused, checked-accepted}
 use Rattle.translation.proofs.Answering.{answered-refused, known}
 use Rattle.translation.proofs.translate_list.Statement.{statement}
 use Rattle.translation.proofs.translate_list.Tie as tie

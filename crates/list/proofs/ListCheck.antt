@@ -11,13 +11,16 @@ use lib.Seq.{drop-cons}
 use Rattle.theory.specs.Basics.{present}
 use Rattle.theory.specs.ProgramText as P
 use Rattle.theory.specs.ProgramText.{Command, variables, command-of, listed, commands}
-use Rattle.theory.specs.TurnedDown.{rule-3, line-fault, lines-fault, program-fault, read-list}
+use Rattle.theory.specs.TurnedDown.{rule-3, lines-fault, program-fault, read-list}
 use Rattle.theory.specs.declared.Refusal.{Refusal}
-use Rattle.program.specs.declared.Checked.the-variants.{Accepted, Refused}
-use Rattle.program.specs.declared.nest.Opening.{Opening}
-use Rattle.program.specs.Answers.{checked}
-use Rattle.program.specs.Nesting.{nothing, innermost, count-after, at-end}
-use Rattle.program.proofs.Pairs.{Known, known, passed-known, Follows, follows}
+use Rattle.nesting.specs.declared.Opening.{Opening}
+use Rattle.nesting.specs.declared.Judged.{Judged}
+use Rattle.nesting.specs.declared.Judged.the-variants.{Passes, Fault}
+use Rattle.nesting.specs.Nesting.{pairs, judged}
+use Rattle.nesting.proofs.Commands.{Known, known}
+use Rattle.list.specs.declared.Checked.the-variants.{Accepted, Refused}
+use Rattle.list.specs.Answers.{checked, at-end}
+use Rattle.list.proofs.Stack.{nothing, innermost, was-fault, has-passed, passed-known, Follows, follows}
 
 -- The three numbers at m, and the rest
 pub three-at : (l : List ℕ) (m : ℕ) → m + 2 < length l → drop m l ≡ getD l m 0 ∷ getD l (m + 1) 0 ∷ getD l (m + 2) 0 ∷ drop (m + 3) l
@@ -88,30 +91,34 @@ module _ (l : List ℕ) (n K d : ℕ) (os : List Opening) (h : SoFar l n K d os)
     verdict : lines-fault 1 [] (listed l) ≡ lines-fault (n + 1) (innermost d os) (here ∷ listed (drop (3 * (n + 1)) l))
     verdict = sym (h .rest) ∙ rw left
 
-    pub faulty : (r : Refusal) → length l ≤ 1536 → line-fault (n + 1) (innermost d os) here ≡ some r → Refused r ≡ checked (read-list l)
-    unfolding lines-fault
-    faulty r short e = refused-by l short r (verdict ∙ rw e)
+    split : (c : Command) → here ≡ some c → present (listed (drop (3 * n) l)) ≡ c ∷ present (listed (drop (3 * (n + 1)) l))
+    split c e = rw (left, e)
 
-    abbrev put : List Opening
-    put = set os (d + 1) (record { line = n + 1; kind = getD l (3 * n) 0; index = getD l (3 * n + 1) 0 })
+    module _ {v : Judged} (e : v ≡ judged (n + 1) (pairs d (getD os d nothing)) here) where
+      pub faulty : {r : Refusal} → v ≡ Fault r → length l ≤ 1536 → Refused r ≡ checked (read-list l)
+      unfolding lines-fault
+      faulty f short = refused-by l short _ (verdict ∙ rw (was-fault (n + 1) d os here e f))
 
-    pub onward : (K′ : ℕ) → line-fault (n + 1) (innermost d os) here ≡ none
-        → K′ ≡ max K (suc (max (getD l (3 * n + 1) 0) (getD l (3 * n + 2) 0))) → SoFar l (n + 1) K′ (count-after d (getD l (3 * n) 0)) put
-    unfolding lines-fault
-    onward K′ e g =
-        let f : Follows (n + 1) (innermost d os) here (count-after d (getD l (3 * n) 0)) put =
-        follows (n + 1) d os _ _ (h .places) (h .room) _ e in
-        let k : Known (getD l (3 * n) 0) (getD l (3 * n + 1) 0) (getD l (3 * n + 2) 0) = known _ _ _
-        (passed-known (n + 1) (innermost d os) _ _ _ e) in
-        let split : present (listed (drop (3 * n) l)) ≡ k .command ∷ present (listed (drop (3 * (n + 1)) l)) = rw (left, k .is) in
-        record {
-          within = omega arith;
-          room = f .room;
-          places = length-set os (d + 1) _ ∙ h .places;
-          rest = rw (f .pairs, add-one (n + 1)) (sym (verdict ∙ rw e));
-          commands = omega (arith, h .commands, ap length split);
-          names = omega (arith, h .names, ap variables split, k .top, g);
-        }
+      abbrev put : List Opening
+      put = set os (d + 1) (record { line = n + 1; kind = getD l (3 * n) 0; index = getD l (3 * n + 1) 0 })
+
+      pub onward : {d′ : ℕ} → v ≡ Passes d′ → (K′ : ℕ) → K′ ≡ max (max K (suc (getD l (3 * n + 1) 0))) (suc (getD l (3 * n + 2) 0))
+          → SoFar l (n + 1) K′ d′ put
+      unfolding lines-fault
+      onward {d′} p K′ g =
+          let q = has-passed (n + 1) d os here e p in
+          let f : Follows (n + 1) (innermost d os) here d′ put = rw (q .1) (follows (n + 1) d os _ _ (h .places) (h .room) _ (q .0)) in
+          let k : Known (getD l (3 * n) 0) (getD l (3 * n + 1) 0) (getD l (3 * n + 2) 0) = known _ _ _
+          (passed-known (n + 1) (innermost d os) _ _ _ (q .0)) in
+          let first : _ = split (k .command) (k .is) in
+          record {
+            within = omega arith;
+            room = f .room;
+            places = length-set os (d + 1) _ ∙ h .places;
+            rest = rw (f .pairs, add-one (n + 1)) (sym (verdict ∙ rw (q .0)));
+            commands = omega (arith, h .commands, ap length first);
+            names = omega (arith, h .names, ap variables first, k .top, g);
+          }
 
   -- The end: a last command cut short, or rule 8
   pub cut : 3 * n < length l → length l ≤ 3 * n + 2 → length l ≤ 1536

@@ -1,7 +1,7 @@
--- `program::nest::is_command` meets its contract: the definition makes the same tests.
+-- `nesting::is_command` meets its contract: the definition makes the same tests.
 use borrow.Author.Tests.{ne-eqb, lt-ltb, le-ltb}
-use Rattle.program.proofs.nest.is_command.Statement.{statement}
-use Rattle.program.proofs.nest.is_command.Tie as tie
+use Rattle.nesting.proofs.is_command.Statement.{statement}
+use Rattle.nesting.proofs.is_command.Tie as tie
 
 returns : tie.Need-returns
 returns c = rw (c .match .keys1)

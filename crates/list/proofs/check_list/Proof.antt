@@ -1,13 +1,13 @@
--- `program::check_list` meets its contract: before each command the faults that are left are those of the whole list.
-use mathlib.Core.Path.{refl, _∙_}
+-- `list::check_list` meets its contract: before each command the faults that are left are those of the whole list.
+use mathlib.Core.Path.{_∙_}
 use Prim.Native.Nat.{_≤_, _-_}
 use native.Mathlib.Omega.{arith}
 use borrow.Author.Needs.{needs}
 use lib.ListN.{length}
-use Rattle.program.proofs.Pairs.{one-is-open, judged-fault, judged-passes}
-use Rattle.program.proofs.ListCheck.{SoFar, at-first, too-many, faulty, onward, cut, whole}
-use Rattle.program.proofs.check_list.Statement.{statement}
-use Rattle.program.proofs.check_list.Tie as tie
+use Rattle.list.proofs.Stack.{ended-under}
+use Rattle.list.proofs.ListCheck.{SoFar, at-first, too-many, faulty, onward, cut, whole}
+use Rattle.list.proofs.check_list.Statement.{statement}
+use Rattle.list.proofs.check_list.Tie as tie
 
 abbrev Inv-loop : tie.InvT-loop
 Inv-loop list openings₀ count₀ lines₀ variables₀ openings count lines variables =
@@ -67,6 +67,15 @@ array-copy-out-last c = omega arith
 add-lines : tie.Need-add-lines Inv-loop μ-loop
 add-lines c = omega arith
 
+add-openings : tie.Need-add-openings Inv-loop μ-loop
+add-openings c = omega arith
+
+mul-openings : tie.Need-mul-openings Inv-loop μ-loop
+mul-openings c = search needs
+
+array-set-from-openings : tie.Need-array-set-from-openings Inv-loop μ-loop
+array-set-from-openings c = omega arith
+
 judge-requires : tie.Need-judge-requires Inv-loop μ-loop
 judge-requires c κs = tt
 
@@ -78,43 +87,30 @@ returns-2 c =
     let c3 = c .before .before .before in
     let c8 = c3 .before .before .before .before .before in
     let m = c8 .before .loop in
-    faulty (c8 .before .before .before .before .args .list .now) (m .lines) (m .variables) (m .count) (m .openings) (m .inv .1)
-    (c8 .loop-test .taken) _ (m .inv .0) (judged-fault _ (c3 .judge .ensures (m .openings) refl) (c .before .r .given .1))
+    let list = c8 .before .before .before .before .args .list .now in
+    faulty list (m .lines) (m .variables) (m .count) (m .openings) (m .inv .1) (c8 .loop-test .taken) (c3 .judge .ensures)
+    (c .before .r .given .1) (m .inv .0)
 
-enum-told : tie.Need-enum-told Inv-loop μ-loop
-enum-told c = search needs
-
-add-openings : tie.Need-add-openings Inv-loop μ-loop
-add-openings c = omega arith
-
-mul-openings : tie.Need-mul-openings Inv-loop μ-loop
-mul-openings c = search needs
-
-array-set-from-openings : tie.Need-array-set-from-openings Inv-loop μ-loop
-array-set-from-openings c = omega arith
-
-open-after-requires : tie.Need-open-after-requires Inv-loop μ-loop
-open-after-requires c κs =
-    let c8 = c .before .before .before .before .before .before .before .before in
-    let m = c8 .loop in
-    let passed = judged-passes _ (c .before .before .judge .ensures (m .openings) refl) (c .enum-told .given .1) in
-    (m .inv .1 .room, one-is-open _ (m .count) (m .openings) _ _ (m .inv .1 .places) (m .inv .1 .room) _ passed)
+enum-known-open : tie.Need-enum-known-open Inv-loop μ-loop
+enum-known-open c = search needs
 
 named-requires : tie.Need-named-requires Inv-loop μ-loop
 named-requires c κs = tt
+
+named-requires-2 : tie.Need-named-requires-2 Inv-loop μ-loop
+named-requires-2 c κs = tt
 
 loop-less : tie.Need-loop-less Inv-loop μ-loop
 loop-less c = omega arith
 
 loop-again : tie.Need-loop-again Inv-loop μ-loop
 loop-again c =
-    let c4 = c .before .before .before .before in
-    let c9 = c4 .before .before .before .before .before in
-    let m = c9 .before .loop in
-    let passed = judged-passes _ (c4 .judge .ensures (m .openings) refl) (c .before .before .enum-told .given .1) in
-    let list = c9 .before .before .before .before .args .list .now in
-    let so-far = onward list (m .lines) (m .variables) (m .count) (m .openings) (m .inv .1) in
-    (m .inv .0, rw (c .before .open-after .ensures) (so-far (c9 .loop-test .taken) _ passed (c .named .ensures)))
+    let c5 = c .before .before .before .before .before in
+    let c10 = c5 .before .before .before .before .before in
+    let m = c10 .before .loop in
+    let list = c10 .before .before .before .before .args .list .now in
+    let so-far = onward list (m .lines) (m .variables) (m .count) (m .openings) (m .inv .1) (c10 .loop-test .taken) (c5 .judge .ensures) in
+    (m .inv .0, so-far (c .before .before .before .«open» .given .1) _ (c .named2 .ensures ∙ rw (c .before .named .ensures)))
 
 mul-if2 : tie.Need-mul-if2 Inv-loop μ-loop
 mul-if2 c = omega arith
@@ -148,7 +144,8 @@ returns-4 c =
     let c4 = c .before .before .before .before in
     let m = c4 .loop in
     let list = c4 .before .before .before .args .list .now in
-    c .ended .ensures (m .openings) refl
+    c .ended .ensures
+    ∙ ended-under _ (m .count) (m .openings)
     ∙ whole list (m .lines) (m .variables) (m .count) (m .openings) (m .inv .1) (omega arith) (m .inv .0)
 
 pub check-list-spec : {M : Type 1} → statement M
@@ -174,15 +171,15 @@ check-list-spec =
     mul-last
     array-copy-out-last
     add-lines
-    judge-requires
-    enum-known-r
-    returns-2
-    enum-told
     add-openings
     mul-openings
     array-set-from-openings
-    open-after-requires
+    judge-requires
+    enum-known-r
+    returns-2
+    enum-known-open
     named-requires
+    named-requires-2
     loop-less
     loop-again
     mul-if2

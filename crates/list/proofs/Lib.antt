@@ -1,0 +1,4 @@
+pub mod Lists
+pub mod Stack
+pub mod ListCheck
+pub mod Replies

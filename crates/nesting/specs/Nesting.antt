@@ -1,0 +1,39 @@
+-- The pairs that are open, as the code has them, and its verdict on one command.
+use mathlib.Core.Bool.{Bool, true, false, cond}
+use mathlib.Core.Option.{Option, none, some}
+use mathlib.Core.List.{List}
+use Prim.Native.Nat.{ℕ}
+use lib.ListN.{length, replicate}
+use lib.Dec.{eqb, ltb}
+use Rattle.theory.specs.ProgramText as P
+use Rattle.theory.specs.ProgramText.{Kind, loop, while, Command}
+use Rattle.theory.specs.TurnedDown.{line-fault, open-past}
+use Rattle.theory.specs.declared.Refusal.{Refusal}
+use Rattle.nesting.specs.declared.Opening.{Opening}
+use Rattle.nesting.specs.declared.Judged.{Judged}
+use Rattle.nesting.specs.declared.Judged.the-variants.{Passes, Fault}
+
+-- The kind of a line that opens or closes a pair, by its number: 4 and 5, or 6 and 7
+abbrev pub kind-of : ℕ → Kind
+kind-of k = cond (ltb k 6) loop while
+
+-- An opening line, as the definitions have it
+abbrev pub open-of : Opening → P.Opening
+open-of o = record { line = o .line; kind = kind-of (o .kind); index = o .index }
+
+-- n open pairs, of which o is the innermost; of the others rules 4 to 7 ask only how many they are
+abbrev pub pairs : ℕ → Opening → List P.Opening
+pairs n o = replicate n (open-of o)
+
+-- Whether a kind and a third number are those of a command
+abbrev pub is-known : ℕ → ℕ → Bool
+is-known k j = cond (eqb k 0) false (cond (eqb k 3) true (cond (ltb k 8) (eqb j 0) false))
+
+-- No fault, and so many pairs are open after it; or the fault
+abbrev pub verdict : ℕ → Option Refusal → Judged
+verdict n none = Passes n
+verdict n (some r) = Fault r
+
+-- The verdict on line n, under the pairs open there
+abbrev pub judged : ℕ → List P.Opening → Option Command → Judged
+judged n os c = verdict (length (open-past n os c)) (line-fault n os c)
