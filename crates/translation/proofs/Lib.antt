@@ -1,8 +1,6 @@
 pub mod Answering
 pub mod Counting
 pub mod Noting
-pub mod Plain
-pub mod Puts
 pub mod Sites
 pub mod Walks
 pub mod Wholes

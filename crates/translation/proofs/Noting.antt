@@ -9,13 +9,12 @@ use borrow.Author.Tests.{ltb-true, ltb-false}
 use lib.Dec.{ltb}
 use lib.ListN.{length, getD, set, length-set}
 use lib.Seq.{getD-set-same, getD-set-other}
-use Rattle.theory.specs.ProgramText.{Block, empty, single, pair, lines}
+use Rattle.theory.specs.ProgramText.{Block, empty, single, pair}
 use Rattle.theory.specs.Source.{deeper}
 use Rattle.theory.specs.Translation.{code}
 use Rattle.theory.proofs.Sizes.{length-line, length-pair}
-use Rattle.translation.specs.Pieces.{numbers-at}
-use Rattle.translation.specs.Sites.{block-at, goes-on, symbols-of, Counts, Note, Noted, Noting}
-use Rattle.translation.specs.declared.lines.Line.{Line}
+use Rattle.command.specs.declared.Numbers.{Numbers}
+use Rattle.translation.specs.Sites.{numbers-at, block-at, goes-on, Note, Noted, Noting}
 
 -- The depth shows in the instructions, and not in their number
 pub same-length : (K d e : ℕ) (b : Block) → length (code K d b) ≡ length (code K e b)
@@ -94,12 +93,7 @@ module _ (list : List ℕ) (K : ℕ) where
       record { room = omega (arith, f .sized); notes = λ n b. f .notes n (omega arith) (omega arith) }
 
   -- What is noted of a pair is what its body counts
-  pub noted-counts : (count : ℕ) (bodies : List ℕ) → Noted list K count bodies → (at n m : ℕ) (l : Line) → at < count
-      → goes-on (block-at list at) ≡ true → l ≡ numbers-at list at → 3 < l .kind → m ≡ getD bodies at 0
-      → Counts K n (at + 1) (block-at list (at + 1)) (record {
-        instructions = m;
-        symbols = symbols-of (code K n (block-at list (at + 1)));
-        next = at + 1 + length (lines (block-at list (at + 1)));
-      })
-  noted-counts count bodies b at n m l h g e k i =
-      record { instructions = i ∙ b .notes at h g (omega (arith, ap (λ x. x .kind) e)) n; symbols = refl; ended = refl }
+  pub noted-counts : {count : ℕ} {bodies : List ℕ} → Noted list K count bodies → (at n : ℕ) {l : Numbers} → at < count
+      → goes-on (block-at list at) ≡ true → l ≡ numbers-at list at → 3 < l .kind
+      → getD bodies at 0 ≡ length (code K n (block-at list (at + 1)))
+  noted-counts b at n h g e k = b .notes at h g (omega (arith, ap (λ x. x .kind) e)) n

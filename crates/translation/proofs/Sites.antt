@@ -20,9 +20,9 @@ use Rattle.theory.proofs.Sizes.{code-length, code-weight}
 use Rattle.theory.proofs.Lists.{lists-round-trip}
 use Rattle.theory.specs.ProgramText.{commands}
 use Rattle.list.proofs.Lists.{list-length}
-use Rattle.translation.specs.Pieces.{numbers-at, Says}
-use Rattle.translation.specs.declared.lines.Line.{Line}
-use Rattle.translation.specs.Sites.{block-at, goes-on, first, rest, pairs-deep, symbols-of, Accepts, Known, Site}
+use Rattle.command.specs.declared.Numbers.{Numbers}
+use Rattle.lengths.specs.Lengths.{symbols-of}
+use Rattle.translation.specs.Sites.{numbers-at, Says, block-at, goes-on, first, rest, pairs-deep, Accepts, Known, Site}
 
 -- An accepted list has three numbers a line
 
@@ -108,7 +108,7 @@ opened-goes-on : (k : Kind) (i : ℕ) (b : Block) (bs : List Block) → goes-on 
 opened-goes-on k i b [] = refl
 opened-goes-on k i b (b′ ∷ bs) = refl
 
-goes-on-at : (l : Line) (c : Command) (p : List Command) → Says l c → (l .kind ≡ 5 → ⊥) → (l .kind ≡ 7 → ⊥)
+goes-on-at : (l : Numbers) (c : Command) (p : List Command) → Says l c → (l .kind ≡ 5 → ⊥) → (l .kind ≡ 7 → ⊥)
     → goes-on (blocks (c ∷ p) .first) ≡ true
 unfolding blocks
 goes-on-at l (plain c) p s h g = refl
@@ -116,16 +116,17 @@ goes-on-at l (opens k i) p s h g = opened-goes-on k i (blocks p .first) (blocks 
 goes-on-at l (closes loop i) p s h g = let e : l .kind ≡ 5 = cc in absurd (h e)
 goes-on-at l (closes while i) p s h g = let e : l .kind ≡ 7 = cc in absurd (g e)
 
-plain-kind : (l : Line) (c : Plain) → Says l (plain c) → l .kind ≤ 3
+plain-kind : (l : Numbers) (c : Plain) → Says l (plain c) → l .kind ≤ 3
 plain-kind l (clear i) s = let e : l .kind ≡ 1 = cc in omega arith
 plain-kind l (increment i) s = let e : l .kind ≡ 2 = cc in omega arith
 plain-kind l (copy i j) s = let e : l .kind ≡ 3 = cc in omega arith
 
-opens-kind : (l : Line) (k : Kind) (i : ℕ) → Says l (opens k i) → (l .kind ≡ 4) ⊎ (l .kind ≡ 6)
+opens-kind : (l : Numbers) (k : Kind) (i : ℕ) → Says l (opens k i) → (l .kind ≡ 4) ⊎ (l .kind ≡ 6)
 opens-kind l loop i s = inl (cc)
 opens-kind l while i s = inr (cc)
 
-stops-at : (l : Line) (c : Command) (p : List Command) → Says l c → (l .kind ≡ 5) ⊎ (l .kind ≡ 7) → goes-on (blocks (c ∷ p) .first) ≡ false
+stops-at : (l : Numbers) (c : Command) (p : List Command) → Says l c → (l .kind ≡ 5) ⊎ (l .kind ≡ 7)
+    → goes-on (blocks (c ∷ p) .first) ≡ false
 unfolding blocks
 stops-at l (plain c) p s h = absurd (⊎-elim (λ e. omega (arith, plain-kind l c s)) (λ e. omega (arith, plain-kind l c s)) h)
 stops-at l (opens k i) p s h =
@@ -251,14 +252,13 @@ variables-front [] q = omega arith
 variables-front (c ∷ p) q = omega (arith, variables-front p q)
 
 -- As many variables, or as high an index plus 1, as are allowed
-abbrev pub Few : ℕ → Type 0
+abbrev Few : ℕ → Type 0
 Few n = n ≤ suc Limits.most-index
 
 pub record Bounds (list : List ℕ) (count K d at : ℕ) : Type 0 where
   pub few-lines : count ≤ Limits.most-lines
   pub few-variables : Few K
   pub shallow : d ≤ Limits.most-open
-  pub low : Few (variables (lines (block-at list at)))
   pub ends : at + length (lines (block-at list at)) ≤ count
   pub instructions : length (code K d (block-at list at)) ≤ Limits.most-instructions
   pub symbols : symbols-of (code K d (block-at list at)) ≤ Limits.most-symbols
@@ -281,7 +281,6 @@ bounds list count K d at s =
       few-lines = few;
       few-variables = high;
       shallow = omega (arith, s .room);
-      low = named;
       ends = omega (arith, ends list count K d at s);
       instructions = omega (arith, code-length K d b);
       symbols = omega arith;

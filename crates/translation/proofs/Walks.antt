@@ -6,16 +6,17 @@ use mathlib.Core.List.{List, [], _∷_, _++_, append-assoc, append-nil}
 use Prim.Native.Nat.{ℕ, _+_, _*_, _≤_, _<_}
 use native.Mathlib.Omega.{arith}
 use lib.ListN.{length, length-append}
-use Rattle.theory.specs.ProgramText.{Plain, clear, increment, copy, Kind, loop, while, plain, opens, closes, variables}
+use Rattle.theory.specs.ProgramText.{Plain, clear, increment, copy, Kind, loop, while, plain, opens, closes}
 use Rattle.theory.specs.ProgramText.{Block, empty, single, pair, lines}
 use Rattle.theory.specs.Source.{deeper}
 use Rattle.theory.specs.Word.{Instruction}
 use Rattle.theory.specs.Translation.{plain-code, before-body, code}
 use Rattle.theory.proofs.Sizes.{weight-append}
-use Rattle.translation.specs.Pieces.{numbers-at, Says, plain-of, kind-of, Small, front, back}
-use Rattle.translation.specs.Sites.{block-at, goes-on, first, rest, Site, symbols-of}
-use Rattle.translation.specs.declared.lines.Line.{Line}
-use Rattle.translation.proofs.Sites.{numbers-count, Stands, body-site, rest-site, Few, Bounds, bounds}
+use Rattle.command.specs.declared.Numbers.{Numbers}
+use Rattle.emit.specs.Pieces.{plain-of, kind-of, front, back}
+use Rattle.lengths.specs.Lengths.{symbols-of}
+use Rattle.translation.specs.Sites.{numbers-at, Says, block-at, goes-on, first, rest, Site}
+use Rattle.translation.proofs.Sites.{numbers-count, Stands, body-site, rest-site, bounds}
 use Rattle.translation.proofs.Sites.{Plainly, Paired, plain-here, pair-here}
 
 code-first : (K d : ℕ) (b : Block) → code K d b ≡ code K d (first b) ++ code K d (rest b)
@@ -78,38 +79,18 @@ module _ (list : List ℕ) (count K d at : ℕ) where
 
 -- The line or pair at a site, by the numbers of its line
 
-kind-says : (l : Line) (k : Kind) (i : ℕ) → Says l (opens k i) → kind-of (l .kind) ≡ k
+kind-says : (l : Numbers) (k : Kind) (i : ℕ) → Says l (opens k i) → kind-of (l .kind) ≡ k
 kind-says l loop i s = let e : l .kind ≡ 4 = cc in rw e
 kind-says l while i s = let e : l .kind ≡ 6 = cc in rw e
 
-plain-says : (l : Line) (c : Plain) → Says l (plain c) → plain-of l ≡ c
+plain-says : (l : Numbers) (c : Plain) → Says l (plain c) → plain-of l ≡ c
 plain-says l (clear i) s = let e : l .kind ≡ 1 = cc in rw e (cc)
 plain-says l (increment i) s = let e : l .kind ≡ 2 = cc in rw e (cc)
 plain-says l (copy i j) s = let e : l .kind ≡ 3 = cc in rw e (cc)
 
-variables-line : (l : Line) (K : ℕ) (c : Plain) (b : Block) → Says l (plain c) → Few (variables (lines (single c b))) → Few K → Small l K
-variables-line l K (clear i) b s h k =
-    let x : l .index ≡ i = cc in
-    let y : l .source ≡ 0 = cc in
-    record { index = omega arith; source = omega arith; variables = k }
-variables-line l K (increment i) b s h k =
-    let x : l .index ≡ i = cc in
-    let y : l .source ≡ 0 = cc in
-    record { index = omega arith; source = omega arith; variables = k }
-variables-line l K (copy i j) b s h k =
-    let x : l .index ≡ i = cc in
-    let y : l .source ≡ j = cc in
-    record { index = omega arith; source = omega arith; variables = k }
-
-opens-index : (l : Line) (k : Kind) (i : ℕ) → Says l (opens k i) → (l .index ≡ i) × (l .source ≡ 0)
-opens-index l loop i s = (cc, cc)
-opens-index l while i s = (cc, cc)
-
-variables-pair : (l : Line) (K : ℕ) (k : Kind) (i : ℕ) (body b : Block) → Says l (opens k i) → Few (variables (lines (pair k i body b)))
-    → Few K → Small l K
-variables-pair l K k i body b s h v =
-    let x : _ = opens-index l k i s in
-    record { index = omega (arith, x .0); source = omega (arith, x .1); variables = v }
+opens-index : (l : Numbers) (k : Kind) (i : ℕ) → Says l (opens k i) → l .index ≡ i
+opens-index l loop i s = cc
+opens-index l while i s = cc
 
 module _ (list : List ℕ) (count K d at : ℕ) (s : Site list count K d at) (g : goes-on (block-at list at) ≡ true) where
   some-lines : (b : Block) → goes-on b ≡ true → 0 < length (lines (first b))
@@ -142,29 +123,24 @@ module _ (list : List ℕ) (count K d at : ℕ) (s : Site list count K d at) (g 
         symbols = omega (arith, ap symbols-of (code-first K d b), weight-append f r);
       }
 
-  pub record PlainHere (l : Line) : Type 0 where
-    pub small : Small l K
+  pub record PlainHere (l : Numbers) : Type 0 where
     pub code : code K d (first (block-at list at)) ≡ plain-code K (plain-of l)
     pub line : length (lines (first (block-at list at))) ≡ 1
 
-  pub plain-at : (l : Line) → l ≡ numbers-at list at → l .kind ≤ 3 → PlainHere l
+  pub plain-at : (l : Numbers) → l ≡ numbers-at list at → l .kind ≤ 3 → PlainHere l
   unfolding code
   plain-at l e h = rw e (go (plain-here list count K d at s g (rw e at h)))
     where
       go : Plainly list at → PlainHere (numbers-at list at)
       go p =
-          let n : Line = numbers-at list at in
-          let b : Bounds list count K d at = bounds list count K d at s in
-          let low : Few (variables (lines (single (p .command) (p .after)))) = rw (p .block) at (b .low) in
+          let n : Numbers = numbers-at list at in
           record {
-            small = variables-line n K (p .command) (p .after) (p .says) low (b .few-variables);
             code = rw (p .block, plain-says n (p .command) (p .says)) (append-nil (plain-code K (p .command)));
             line = rw (p .block);
           }
 
   -- The code of a pair that line l opens, around that of its body
-  pub record PairHere (l : Line) : Type 0 where
-    pub small : Small l K
+  pub record PairHere (l : Numbers) : Type 0 where
     pub site : Site list count K (deeper (kind-of (l .kind)) d) (at + 1)
     pub code :
         let inner = code K (deeper (kind-of (l .kind)) d) (block-at list (at + 1)) in
@@ -172,20 +148,17 @@ module _ (list : List ℕ) (count K d at : ℕ) (s : Site list count K d at) (g 
         code K d (first (block-at list at)) ≡ front K d l m ++ (inner ++ back (l .kind) m)
     pub line : length (lines (first (block-at list at))) ≡ length (lines (block-at list (at + 1))) + 2
 
-  pub pair-at : (l : Line) → l ≡ numbers-at list at → 3 < l .kind → PairHere l
+  pub pair-at : (l : Numbers) → l ≡ numbers-at list at → 3 < l .kind → PairHere l
   unfolding code
   pair-at l e h = rw e (go (pair-here list count K d at s g (rw e at h)))
     where
       go : Paired list at → PairHere (numbers-at list at)
       go p =
-          let n : Line = numbers-at list at in
-          let b : Bounds list count K d at = bounds list count K d at s in
-          let low : Few (variables (lines (pair (p .kind) (p .index) (p .body) (p .after)))) = rw (p .block) at (b .low) in
+          let n : Numbers = numbers-at list at in
           let k : kind-of (n .kind) ≡ p .kind = kind-says n (p .kind) (p .index) (p .says) in
           let inside : _ = body-site list count K d at s (p .kind) (p .index) (p .body) (p .after) (p .block) in
           record {
-            small = variables-pair n K (p .kind) (p .index) (p .body) (p .after) (p .says) low (b .few-variables);
             site = rw k (inside .site);
-            code = rw (p .block, k, inside .block, opens-index n (p .kind) (p .index) (p .says) .0);
+            code = rw (p .block, k, inside .block, opens-index n (p .kind) (p .index) (p .says));
             line = rw (p .block, inside .block) (omega (arith, length-append (lines (p .body)) (closes (p .kind) (p .index) ∷ [])));
           }

@@ -1,24 +1,24 @@
 -- The word of a whole list: F1 and the code of the block that begins at its first line.
 use mathlib.Core.Path.{_≡_, sym, ap, _∙_}
-use mathlib.Core.List.{List, [], _∷_, _++_}
+use mathlib.Core.List.{List, [], _∷_}
 use Prim.Native.Nat.{ℕ, _+_, _≤_}
 use native.Mathlib.Omega.{arith}
 use lib.ListN.{length}
 use Rattle.theory.specs.ProgramText.{Command, variables, lines, block-of, commands}
-use Rattle.theory.specs.Word.{Instruction, forward, table-of, spell}
+use Rattle.theory.specs.Word.{Instruction, forward, spell}
 use Rattle.theory.specs.Translation.{code, word, word-of, word-text}
 use Rattle.theory.specs.TurnedDown.{done, lent-after}
 use Rattle.theory.proofs.Nesting.{well-nested}
 use Rattle.theory.proofs.Sizes.{bytes-length}
 use Rattle.translation.specs.Answers.{size-of}
-use Rattle.output.specs.Puts.{Put}
-use Rattle.translation.specs.Pieces.{text}
-use Rattle.translation.specs.Sites.{block-at, Known, Site, Counts, Writes, symbols-of}
+use Rattle.emit.specs.Pieces.{Written}
+use Rattle.lengths.specs.Lengths.{symbols-of}
+use Rattle.translation.specs.Sites.{block-at, Known, Site, Counts, Writes}
 use Rattle.translation.specs.declared.sizes.Extent.{Extent}
 use Rattle.translation.specs.declared.writing.Spot.{Spot}
 use Rattle.translation.proofs.Sites.{accepted, Stands, whole-site, Bounds, bounds}
-use Rattle.output.proofs.Puts.{put-then, sets-front}
-use Rattle.translation.proofs.Written.{words-append}
+use Rattle.output.proofs.Puts.{sets-front}
+use Rattle.translation.proofs.Written.{written-then}
 
 module _ (list : List ℕ) (count K : ℕ) (k : Known list count K) where
   stands : Stands list count K 0 0 (block-of (commands list))
@@ -49,21 +49,20 @@ module _ (list : List ℕ) (count K : ℕ) (k : Known list count K) where
   word-length = bytes-length (word-of (commands list)) ∙ (ap symbols-of word-is ∙ (omega arith))
 
   pub size-is : (e : Extent) → Counts K 0 0 (block-at list 0) e
-      → record { symbols = 4 + e .symbols; instructions = 1 + e .instructions } ≡ size-of (commands list)
+      → record { symbols = 4 + e .size .symbols; instructions = 1 + e .size .instructions } ≡ size-of (commands list)
   size-is e c =
-      let s : 4 + e .symbols ≡ length (word-text (commands list)) = omega (arith, c .symbols, word-length) in
-      let i : 1 + e .instructions ≡ length (word-of (commands list)) = omega (arith, c .instructions, ap length word-is) in
+      let s : 4 + e .size .symbols ≡ length (word-text (commands list)) = omega (arith, ap (λ z. z .symbols) (c .size), word-length) in
+      let i : 1 + e .size .instructions ≡ length (word-of (commands list)) =
+      omega (arith, ap (λ z. z .instructions) (c .size), ap length word-is) in
       rw (s, i)
 
   -- Its first instruction and its block's code, written one after the other
-  pub word-put : (out out′ out″ : List ℕ) (place : ℕ) (s : Spot) → length (word-text (commands list)) ≤ length out
-      → Put (text (record { kind = 3; operand = 1 } ∷ [])) 0 out out′ place → Writes K 0 0 (block-at list 0) place out′ out″ s
+  pub word-put : {out out′ out″ : List ℕ} {place : ℕ} {s : Spot} → length (word-text (commands list)) ≤ length out
+      → Written (forward 1 ∷ []) 0 out out′ place → Writes K 0 0 (block-at list 0) place out′ out″ s
       → out″ ≡ lent-after out (done (word-text (commands list)))
   unfolding word-text spell lent-after
-  word-put out out′ out″ place s r f w =
+  word-put {out} {out′} {out″} {place} {s} r f w =
       let c : List Instruction = code K 0 (block-at list 0) in
-      let T : List ℕ = word-text (commands list) in
-      let whole : T ≡ text (record { kind = 3; operand = 1 } ∷ []) ++ text (table-of c) =
-      ap (λ u. text (table-of u)) word-is ∙ words-append (forward 1 ∷ []) c in
-      let put : Put T 0 out out″ (s .place) = rw whole (put-then f (w .put)) in
-      put .wrote ∙ sets-front out T r
+      let whole : Written (word-of (commands list)) 0 out out″ (s .place) =
+      rw word-is (written-then (forward 1 ∷ []) c f (w .written)) in
+      whole .put .wrote ∙ sets-front out (word-text (commands list)) r

@@ -1,19 +1,28 @@
 -- Where a block stands in an accepted list, what its code counts, and that it was written.
 use mathlib.Core.Path.{_≡_}
 use mathlib.Core.Bool.{Bool, true, false}
-use mathlib.Core.List.{List, _++_}
-use Prim.Native.Nat.{ℕ, suc, _+_, _≤_, _<_, max}
+use mathlib.Core.List.{List, [], _∷_, _++_}
+use Prim.Native.Nat.{ℕ, suc, _+_, _*_, _≤_, _<_, max}
 use lib.ListN.{length, drop, getD}
 use Rattle.theory.specs.Limits
-use Rattle.theory.specs.ProgramText.{Command, variables, Block, empty, single, pair, lines, blocks, commands}
-use Rattle.theory.specs.Word.{Instruction, table-of}
+use Rattle.theory.specs.ProgramText.{Command, numbers, variables, Block, empty, single, pair, lines, blocks, commands}
+use Rattle.theory.specs.Word.{Instruction}
 use Rattle.theory.specs.Translation.{code}
-use Rattle.theory.specs.TurnedDown.{done, read-list, total}
-use Rattle.output.specs.Puts.{Put}
-use Rattle.translation.specs.Pieces.{numbers-at, front, back, text}
-use Rattle.translation.specs.declared.lines.Line.{Line}
+use Rattle.theory.specs.TurnedDown.{done, read-list}
+use Rattle.command.specs.declared.Numbers.{Numbers}
+use Rattle.emit.specs.Pieces.{Written}
+use Rattle.lengths.specs.Lengths.{length-of}
+use Rattle.lengths.specs.declared.Length.{Length}
 use Rattle.translation.specs.declared.sizes.Extent.{Extent}
 use Rattle.translation.specs.declared.writing.Spot.{Spot}
+
+-- The three numbers of line n of a list, from 0
+abbrev pub numbers-at : List ℕ → ℕ → Numbers
+numbers-at list n = record { kind = getD list (3 * n) 0; index = getD list (3 * n + 1) 0; source = getD list (3 * n + 2) 0 }
+
+-- They are those of a command
+abbrev pub Says : Numbers → Command → Type 0
+Says l c = numbers c ≡ l .kind ∷ l .index ∷ l .source ∷ []
 
 -- The block that begins at line n of a list's program, from 0
 unfoldable pub block-at : List ℕ → ℕ → Block
@@ -41,10 +50,6 @@ pairs-deep empty = 0
 pairs-deep (single c b) = pairs-deep b
 pairs-deep (pair k i body b) = max (suc (pairs-deep body)) (pairs-deep b)
 
--- The symbols of some instructions
-abbrev pub symbols-of : List Instruction → ℕ
-symbols-of w = total (table-of w)
-
 -- An accepted list of so many lines
 pub record Accepts (list : List ℕ) (count : ℕ) : Type 0 where
   pub read : read-list list ≡ done (commands list)
@@ -64,39 +69,18 @@ pub record Site (list : List ℕ) (count K d at : ℕ) : Type 0 where
   pub stops : blocks later .first ≡ empty
   pub room : d + pairs-deep (block-at list at) ≤ Limits.most-open
 
--- What some instructions count, up to a line
+-- The length of some instructions, up to a line
 pub record Counted (w : List Instruction) (next : ℕ) (e : Extent) : Type 0 where
-  pub instructions : e .instructions ≡ length w
-  pub symbols : e .symbols ≡ symbols-of w
+  pub size : e .size ≡ length-of w
   pub ended : e .next ≡ next
 
--- So does the code of a block that begins at line `at`, inside d loops
+-- So is that of the code of a block that begins at line `at`, inside d loops
 abbrev pub Counts : ℕ → ℕ → ℕ → Block → Extent → Type 0
 Counts K d at b e = Counted (code K d b) (at + length (lines b)) e
 
 -- One after the other
-abbrev pub join : Extent → Extent → Extent
-join a b = record { instructions = a .instructions + b .instructions; symbols = a .symbols + b .symbols; next = b .next }
-
-module _ (K d : ℕ) (l : Line) (body : Extent) where
-  -- What stands before and after a body of this extent
-  abbrev pub before : List Instruction
-  before = front K d l (body .instructions)
-
-  abbrev pub after : List Instruction
-  after = back (l .kind) (body .instructions)
-
-  -- The sums do not wrap
-  pub record Roomy : Type 0 where
-    pub instructions : body .instructions ≤ Limits.most-instructions
-    pub symbols : symbols-of before + body .symbols + symbols-of after ≤ Limits.most-symbols
-    pub next : body .next < Limits.most-lines
-
-  -- An extent counts the body with both
-  pub record Around (e : Extent) : Type 0 where
-    pub instructions : e .instructions ≡ length before + body .instructions + length after
-    pub symbols : e .symbols ≡ symbols-of before + body .symbols + symbols-of after
-    pub ended : e .next ≡ body .next + 1
+abbrev pub join : Length → Length → Length
+join a b = record { instructions = a .instructions + b .instructions; symbols = a .symbols + b .symbols }
 
 -- The instructions of the body of the pair that opens at line n are noted in `bodies`, if a pair does
 abbrev pub Note : List ℕ → ℕ → List ℕ → ℕ → Type 0
@@ -116,7 +100,7 @@ pub record Noting (list : List ℕ) (K from to : ℕ) (before after : List ℕ) 
 
 -- Some instructions were written, up to a line
 pub record Wrote (w : List Instruction) (next place : ℕ) (before after : List ℕ) (s : Spot) : Type 0 where
-  pub put : Put (text (table-of w)) place before after (s .place)
+  pub written : Written w place before after (s .place)
   pub ended : s .next ≡ next
 
 -- So was the code of a block that begins at line `at`, inside d loops

@@ -1,8 +1,6 @@
 // Translation of a program into its 1# word (document 01, "Translation"). The sizes come first, by a walk over the program; then each
 // symbol of the word is written once, straight into the caller's output.
-mod bodies;
 mod lines;
-mod pieces;
 mod sizes;
 mod writing;
 
@@ -30,24 +28,24 @@ pub enum Translated {
 }
 
 // The size of the word of an accepted list: F1, and the program's block. The instructions of every body are noted.
-fn word_size(list: &[u8], lines: usize, variables: usize, bodies: &mut [u16]) -> Size
+fn word_size(list: &[u8], lines: usize, variables: u8, bodies: &mut [u16]) -> Size
     requires { ⌜ Known (now list) lines variables × (lines ≤ length (now bodies)) ⌝ }
     ensures { λ r. ⌜ (r ≡ size-of (commands (now (list .entry)))) × Noted (now (list .entry)) variables lines (now (bodies .exit)) ⌝ }
 {
     let block = sizes::block_size(list, lines, variables, 0, 0, &mut *bodies);
     Size {
-        symbols: 4 + block.symbols,
-        instructions: 1 + block.instructions,
+        symbols: 4 + block.size.symbols,
+        instructions: 1 + block.size.instructions as usize,
     }
 }
 
 // The word of an accepted list, at the start of an output that has room for it.
-fn put_word(list: &[u8], lines: usize, variables: usize, bodies: &[u16], out: &mut [u8])
+fn put_word(list: &[u8], lines: usize, variables: u8, bodies: &[u16], out: &mut [u8])
     requires { ⌜ Known (now list) lines variables × Noted (now list) variables lines (now bodies)
         × (length (word-text (commands (now list))) ≤ length (now out)) ⌝ }
     ensures { λ _. ⌜ now (out .exit) ≡ lent-after (now (out .entry)) (done (word-text (commands (now (list .entry))))) ⌝ }
 {
-    let place = pieces::put_instruction(&mut *out, 0, 1, 3);
+    let place = emit::put_instruction(&mut *out, 0, 1, emit::FORWARD);
     writing::put_block(list, lines, variables, 0, 0, bodies, &mut *out, place);
 }
 
@@ -57,14 +55,15 @@ fn translate_accepted(list: &[u8], lines: usize, variables: usize, out: &mut [u8
     ensures { λ r. ⌜ Answered (read-list (now (list .entry))) (now (out .entry)) (now (out .exit)) r ⌝ }
 {
     let mut bodies = [0u16; program::Program::LINES];
-    let size = word_size(list, lines, variables, &mut bodies);
+    let named = variables as u8;
+    let size = word_size(list, lines, named, &mut bodies);
     if out.len() < size.symbols {
         return Translated::Refused(Refusal {
             number: 19,
             place: 0,
         });
     }
-    put_word(list, lines, variables, &bodies, &mut *out);
+    put_word(list, lines, named, &bodies, &mut *out);
     Translated::Done(size)
 }
 

@@ -4,25 +4,20 @@ ghost use Prim.Native.Nat.{_+_, _*_, _≤_, _<_};
 ghost use lib.ListN.{length};
 ghost use Rattle.theory.specs.Limits as Limits;
 ghost use Rattle.theory.specs.Source as S;
-ghost use Rattle.translation.specs.Pieces.{numbers-at, kind-of};
-ghost use Rattle.translation.specs.Sites.{Accepts, block-at, goes-on};
-
-// The numbers of a command: its kind, its index, and a copy's source.
-pub struct Line {
-    pub kind: u8,
-    pub index: usize,
-    pub source: usize,
-}
+ghost use Rattle.emit.specs.Pieces.{kind-of};
+ghost use Rattle.translation.specs.Sites.{numbers-at, Accepts, block-at, goes-on};
+use command::Numbers;
 
 // Line `at`, from 0.
-pub fn line_at(list: &[u8], at: usize) -> Line
+pub fn line_at(list: &[u8], at: usize) -> Numbers
     requires { ⌜ 3 * at + 2 < length (now list) ⌝ }
     ensures { λ r. ⌜ r ≡ numbers-at (now (list .entry)) at ⌝ }
 {
-    Line {
-        kind: list[3 * at],
-        index: wide(list[3 * at + 1]),
-        source: wide(list[3 * at + 2]),
+    let first = 3 * at;
+    Numbers {
+        kind: list[first],
+        index: list[first + 1],
+        source: list[first + 2],
     }
 }
 
@@ -43,7 +38,7 @@ pub fn begins(list: &[u8], lines: usize, at: usize) -> bool
 }
 
 // The loops around the body of a pair that a line of this kind opens, inside `depth` of them.
-pub fn deeper(kind: u8, depth: usize) -> usize
+pub fn deeper(kind: u8, depth: u8) -> u8
     requires { ⌜ depth ≤ Limits.most-open ⌝ }
     ensures { λ r. ⌜ r ≡ S.deeper (kind-of kind) depth ⌝ }
 {
@@ -51,11 +46,4 @@ pub fn deeper(kind: u8, depth: usize) -> usize
         command::LOOP => depth + 1,
         _ => depth,
     }
-}
-
-// A byte as a number that can be counted with.
-fn wide(x: u8) -> usize
-    ensures { λ r. ⌜ r ≡ x ⌝ }
-{
-    x as usize
 }

@@ -19,7 +19,7 @@ returns : tie.Need-returns
 returns c =
     let f : _ = c .before .before .before .before .before .before in
     let k : _ = f .before .before .before .before .before .pre in
-    word-put _ _ _ (k .0) _ _ _ _ _ (k .2) (f .put-instruction .ensures .put) (c .before .before .put-block .ensures)
+    word-put _ _ _ (k .0) (k .2) (f .put-instruction .ensures) (c .before .before .put-block .ensures)
 
 pub put-word-spec : {M : Type 1} → statement M
 put-word-spec =

@@ -7,6 +7,9 @@ use Rattle.translation.proofs.Wholes.{small}
 use Rattle.translation.proofs.translate_accepted.Statement.{statement}
 use Rattle.translation.proofs.translate_accepted.Tie as tie
 
+cast-named : tie.Need-cast-named
+cast-named c = omega (arith, small _ _ _ (c .before .before .pre) .few-variables)
+
 slice-aggregate-word-size : tie.Need-slice-aggregate-word-size
 slice-aggregate-word-size c = search needs
 
@@ -45,6 +48,7 @@ pub translate-accepted-spec : {M : Type 1} → statement M
 translate-accepted-spec =
     tie.close
     (tie.spec
+    cast-named
     slice-aggregate-word-size
     word-size-requires
     returns

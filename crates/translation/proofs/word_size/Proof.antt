@@ -1,5 +1,5 @@
 -- `word_size` meets its contract: F1 has four symbols, and the rest is the code of the block at the first line.
-use mathlib.Core.Path.{_∙_}
+use mathlib.Core.Path.{ap, _∙_}
 use native.Mathlib.Omega.{arith}
 use borrow.Author.Needs.{needs}
 use Rattle.translation.proofs.Noting.{noting-whole}
@@ -13,13 +13,19 @@ block-size-requires c κs = (site _ _ _ (c .before .before .before .pre .0), c .
 add-t8 : tie.Need-add-t8
 add-t8 c =
     let h : _ = small _ _ _ (c .before .before .before .before .before .before .before .pre .0) in
-    omega (arith, h .symbols, c .before .before .before .block-size .ensures .0 .symbols)
+    omega (arith, h .symbols, ap (λ z. z .symbols) (c .before .before .before .block-size .ensures .0 .size))
 
-add-t9 : tie.Need-add-t9
-add-t9 c =
+cast-t9 : tie.Need-cast-t9
+cast-t9 c =
     let b : _ = c .before .before .before .before in
     let h : _ = small _ _ _ (b .before .before .before .before .pre .0) in
-    omega (arith, h .instructions, b .block-size .ensures .0 .instructions)
+    omega (arith, h .instructions, ap (λ z. z .instructions) (b .block-size .ensures .0 .size))
+
+add-t10 : tie.Need-add-t10
+add-t10 c =
+    let b : _ = c .before .before .before .before in
+    let h : _ = small _ _ _ (b .before .before .before .before .pre .0) in
+    omega (arith, h .instructions, ap (λ z. z .instructions) (b .block-size .ensures .0 .size))
 
 same-length : tie.Need-same-length
 same-length c = search needs
@@ -32,4 +38,4 @@ returns c =
     (size-is _ _ _ (k .0) _ (e .0), noting-whole _ _ _ _ _ _ (e .0 .ended ∙ whole-lines _ _ _ (k .0)) (k .1) (e .1))
 
 pub word-size-spec : {M : Type 1} → statement M
-word-size-spec = tie.close (tie.spec block-size-requires add-t8 add-t9 same-length returns)
+word-size-spec = tie.close (tie.spec block-size-requires add-t8 cast-t9 add-t10 same-length returns)

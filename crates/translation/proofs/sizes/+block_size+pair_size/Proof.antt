@@ -4,28 +4,27 @@ use mathlib.Core.Path.{sym, ap, _∙_}
 use Prim.Native.Nat.{ℕ, _<_, _≤_, _+_, _-_, _*_}
 use native.Mathlib.Omega.{arith}
 use lib.ListN.{length, length-set}
+use borrow.Author.Needs.{needs}
 use borrow.Fn.Kinds.{In}
 use borrow.Fn.PlainCycle.{Measures, is, falls, and}
+use Rattle.translation.specs.Sites.{numbers-at, Noting}
 use Rattle.translation.proofs.Sites.{bounds}
 use Rattle.translation.proofs.Walks.{plain-at, pair-at, here}
-use Rattle.translation.proofs.Counting.{Counting, counting-none, counting-more, counting-steps, counting-all}
-use Rattle.translation.specs.Pieces.{numbers-at}
-use Rattle.translation.specs.Sites.{Noting}
+use Rattle.translation.proofs.Counting.{Counting, counting-none, counting-more, counting-room, counting-all}
+use Rattle.translation.proofs.Counting.{plain-counts, pair-room, pair-counts, closes-below}
 use Rattle.translation.proofs.Noting.{noting-none, noting-then, noting-plain, noting-pair}
-use Rattle.translation.proofs.Counting.{plain-asks, plain-counts, pair-asks, pair-counts}
 use Rattle.translation.proofs.sizes.block_size.Reads as block-reads
 use Rattle.translation.proofs.sizes.block_size.Kinds as block-kinds
 use Rattle.translation.proofs.sizes.+block_size+pair_size.Lts-block_size as block
 use Rattle.translation.proofs.sizes.pair_size.Reads as pair-reads
 use Rattle.translation.proofs.sizes.pair_size.Kinds as pair-kinds
 use Rattle.translation.proofs.sizes.+block_size+pair_size.Lts-pair_size as pair
+use Rattle.lengths.proofs.line_size.Reads as line-size
+use Rattle.lengths.proofs.ends_size.Reads as ends-size
 use Rattle.translation.proofs.lines.begins.Reads as begins
 use Rattle.translation.proofs.lines.line_at.Reads as line-at
 use Rattle.translation.proofs.lines.deeper.Reads as deeper
-use Rattle.translation.proofs.bodies.note.Reads as note
-use Rattle.translation.proofs.sizes.around.Reads as around
 use Rattle.translation.proofs.sizes.joined.Reads as joined
-use Rattle.translation.proofs.sizes.line_size.Reads as line-size
 use Rattle.translation.proofs.sizes.+block_size+pair_size.{statement}
 use Rattle.translation.proofs.sizes.+block_size+pair_size.Tie.{close}
 
@@ -37,11 +36,11 @@ abbrev μ-pair : Measures 2 pair-kinds.ps ℕ
 μ-pair κs a = 2 * (a .1 .0 - a .1 .1 .1 .1 .0)
 
 abbrev Inv-loop : block.InvT-loop
-Inv-loop list lines variables depth at bodies₀ sum₀ bodies sum =
-    Counting list lines variables depth at sum × Noting list variables at (sum .next) bodies₀ bodies
+Inv-loop list lines variables depth at bodies₀ size₀ next₀ bodies size next =
+    Counting list lines variables depth at size next × Noting list variables at next bodies₀ bodies
 
 abbrev μ-loop : block.MeasureT-loop
-μ-loop list lines variables depth at bodies₀ sum₀ bodies sum = lines - sum .next
+μ-loop list lines variables depth at bodies₀ size₀ next₀ bodies size next = lines - next
 
 module _ (t : ℕ) where
   -- What each may assume where its measure is t, and where it is less
@@ -71,10 +70,10 @@ module _ (t : ℕ) where
     deeper.Learnt,
     block-below,
     block-reads.Post,
-    note.Asked,
-    note.Learnt,
-    around.Asked,
-    around.Learnt,
+    ends-size.Asked,
+    ends-size.Learnt,
+    joined.Asked,
+    joined.Learnt,
   )
 
   block-holds : block.Need-loop-holds in-block block-at block-reads.Post Inv-loop μ-loop
@@ -95,25 +94,22 @@ module _ (t : ℕ) where
       let p : _ = c .before .before in
       let l : _ = p .before .before .before .before in
       let goes : _ = sym (p .before .before .before .begins .ensures) ∙ p .before .before .if1 .taken in
-      let at : _ = l .before .before .before .pre .1 .0 in
-      let s : _ = counting-steps _ _ _ _ _ _ _ at (l .loop .inv .0) goes (p .pair-size .ensures .0) in
-      (s .instructions, s .symbols)
+      counting-room _ _ _ _ _ _ _ _ (l .before .before .before .pre .1 .0) (l .loop .inv .0) goes (p .pair-size .ensures .0)
 
   block-less : block.Need-loop-less in-block block-at block-reads.Post Inv-loop μ-loop
   block-less c =
       let p : _ = c .before .before .before in
       let l : _ = p .before .before .before .before in
       let goes : _ = sym (p .before .before .before .begins .ensures) ∙ p .before .before .if1 .taken in
-      let at : _ = l .before .before .before .pre .1 .0 in
-      let s : _ = counting-steps _ _ _ _ _ _ _ at (l .loop .inv .0) goes (p .pair-size .ensures .0) in
-      omega (arith, s .below, s .onward, ap (λ e. e .next) (c .joined .ensures))
+      let h : _ = here _ _ _ _ _ (l .loop .inv .0 .passed .site) goes in
+      omega (arith, h .below, h .passes, p .pair-size .ensures .0 .ended)
 
   block-again : block.Need-loop-again in-block block-at block-reads.Post Inv-loop μ-loop
   block-again c =
       let p : _ = c .before .before .before in
       let inv : _ = p .before .before .before .before .loop .inv in
       let notes : _ = noting-then _ _ (inv .0 .passed .onward) (inv .1) (p .pair-size .ensures .1) in
-      rw (c .joined .ensures) (counting-more _ _ _ _ _ _ _ (inv .0) (p .pair-size .ensures .0), notes)
+      (rw (c .joined .ensures) (counting-more _ _ _ _ _ _ _ _ (inv .0) (p .pair-size .ensures .0)), notes)
 
   block-length : block.Need-same-length in-block block-at block-reads.Post Inv-loop μ-loop
   block-length c = c .before .before .loop .inv .1 .sized
@@ -122,24 +118,21 @@ module _ (t : ℕ) where
   block-returns c =
       let goes : _ = sym (c .before .begins .ensures) ∙ c .if1 .left in
       let inv : _ = c .before .before .loop .inv in
-      (counting-all _ _ _ _ _ _ (inv .0) goes, inv .1, goes)
+      (counting-all _ _ _ _ _ _ _ (inv .0) goes, inv .1, goes)
 
   pair-line : pair.Need-line-at-requires in-pair pair-here pair-reads.Post
   pair-line c κs = here _ _ _ _ _ (c .before .before .pre .1 .0) (c .before .before .pre .1 .1) .numbers
 
+  pair-next : pair.Need-add-first in-pair pair-here pair-reads.Post
+  pair-next c =
+      let q : _ = c .before .before .before .pre .1 in
+      omega (arith, here _ _ _ _ _ (q .0) (q .1) .below)
+
   pair-line-size : pair.Need-line-size-requires in-pair pair-here pair-reads.Post
-  pair-line-size c κs =
-      let l : _ = c .before .before in
-      let q : _ = l .before .before .before .pre .1 in
-      plain-asks _ _ _ _ _ (q .0) (q .1) _ (plain-at _ _ _ _ _ (q .0) (q .1) _ (l .line-at .ensures) (c .if1 .taken))
+  pair-line-size c κs = search needs
 
   pair-deeper : pair.Need-deeper-requires in-pair pair-here pair-reads.Post
   pair-deeper c κs = omega (arith, bounds _ _ _ _ _ (c .before .before .before .before .before .pre .1 .0) .shallow)
-
-  pair-next : pair.Need-add-block-size in-pair pair-here pair-reads.Post
-  pair-next c =
-      let q : _ = c .before .before .before .before .before .before .pre .1 in
-      omega (arith, here _ _ _ _ _ (q .0) (q .1) .below)
 
   pair-body : pair.Need-block-size-requires in-pair pair-here pair-reads.Post
   pair-body c κs =
@@ -149,24 +142,38 @@ module _ (t : ℕ) where
       let p : _ = pair-at _ _ _ _ _ (q .0) (q .1) _ (l .line-at .ensures) (d .before .if1 .left) in
       (omega (arith, here _ _ _ _ _ (q .0) (q .1) .below), (rw (d .deeper .ensures) (p .site), q .2))
 
-  pair-note : pair.Need-note-requires in-pair pair-here pair-reads.Post
-  pair-note c κs =
+  pair-mul : pair.Need-mul-bodies in-pair pair-here pair-reads.Post
+  pair-mul c =
+      let q : _ = c .before .before .before .before .before .before .before .before .before .before .pre .1 in
+      omega (arith, here _ _ _ _ _ (q .0) (q .1) .below, bounds _ _ _ _ _ (q .0) .few-lines)
+
+  pair-note : pair.Need-slice-write-bodies in-pair pair-here pair-reads.Post
+  pair-note c =
+      let b : _ = c .before .before in
+      let q : _ = b .before .before .before .before .before .before .before .before .pre .1 in
+      omega (arith, here _ _ _ _ _ (q .0) (q .1) .below, q .2, b .block-size .ensures .1 .sized)
+
+  pair-ends : pair.Need-ends-size-requires in-pair pair-here pair-reads.Post
+  pair-ends c κs = search needs
+
+  pair-joined : pair.Need-joined-requires in-pair pair-here pair-reads.Post
+  pair-joined c κs =
       let b : _ = c .before .before .before in
       let d : _ = b .before .before in
       let l : _ = d .before .before .before in
       let q : _ = l .before .before .before .pre .1 in
       let p : _ = pair-at _ _ _ _ _ (q .0) (q .1) _ (l .line-at .ensures) (d .before .if1 .left) in
-      let room : _ = pair-asks _ _ _ _ _ (q .0) (q .1) _ p _ (d .deeper .ensures) _ (b .block-size .ensures .0) .2 in
-      (omega (arith, here _ _ _ _ _ (q .0) (q .1) .below, q .2, b .block-size .ensures .1 .sized), room .instructions)
+      pair-room _ _ _ _ _ (q .0) (q .1) _ p _ (d .deeper .ensures) _ (b .block-size .ensures .0) (c .ends-size .ensures)
 
-  pair-around : pair.Need-around-requires in-pair pair-here pair-reads.Post
-  pair-around c κs =
-      let b : _ = c .before .before .before .before .before .before in
+  pair-after : pair.Need-add-t19 in-pair pair-here pair-reads.Post
+  pair-after c =
+      let b : _ = c .before .before .before .before .before in
       let d : _ = b .before .before in
       let l : _ = d .before .before .before in
       let q : _ = l .before .before .before .pre .1 in
       let p : _ = pair-at _ _ _ _ _ (q .0) (q .1) _ (l .line-at .ensures) (d .before .if1 .left) in
-      pair-asks _ _ _ _ _ (q .0) (q .1) _ p _ (d .deeper .ensures) _ (b .block-size .ensures .0)
+      let low : _ = closes-below _ _ _ _ _ (q .0) (q .1) _ p _ (d .deeper .ensures) (b .block-size .ensures .0 .ended) in
+      omega (arith, low)
 
   pair-returns : pair.Need-returns in-pair pair-here pair-reads.Post
   pair-returns c =
@@ -176,29 +183,26 @@ module _ (t : ℕ) where
       let a : _ = l .before .before .before .args in
       let low : (numbers-at (a .list .now) (a .at)) .kind ≤ 3 =
       omega (arith, ap (λ x. x .kind) (l .line-at .ensures), c .before .if1 .taken) in
-      let counts : _ = plain-counts _ _ _ _ _ (q .0) (q .1) _ p _ (c .line-size .ensures) in
-      (counts, rw (c .line-size .ensures .ended) (noting-plain _ _ _ _ low))
+      (plain-counts _ _ _ _ _ (q .0) (q .1) _ p (c .line-size .ensures), noting-plain _ _ _ _ low)
 
   pair-length : pair.Need-same-length in-pair pair-here pair-reads.Post
   pair-length c =
-      let n : _ = c .before .before .before in
-      let sized : _ = n .before .before .before .before .block-size .ensures .1 .sized in
-      (simp length-set at (ap length (n .note .ensures))) ∙ sized
+      let sized : _ = c .before .before .before .before .before .block-size .ensures .1 .sized in
+      simp length-set sized
 
   pair-returns-2 : pair.Need-returns-2 in-pair pair-here pair-reads.Post
   pair-returns-2 c =
-      let n : _ = c .before .before .before in
-      let b : _ = n .before .before .before .before in
+      let b : _ = c .before .before .before .before .before in
       let d : _ = b .before .before in
       let l : _ = d .before .before .before in
       let q : _ = l .before .before .before .pre .1 in
       let h : _ = here _ _ _ _ _ (q .0) (q .1) in
       let p : _ = pair-at _ _ _ _ _ (q .0) (q .1) _ (l .line-at .ensures) (d .before .if1 .left) in
       let e : _ = b .block-size .ensures in
-      let notes : _ = noting-pair _ _ _ _ _ _ _ _ (omega (arith, h .below, q .2)) (e .0 .instructions)
-      (omega (arith, e .0 .ended)) (e .2) (e .1) in (
-        pair-counts _ _ _ _ _ (q .0) (q .1) _ p _ (d .deeper .ensures) _ (e .0) _ (c .around .ensures),
-        rw (c .around .ensures .ended, n .note .ensures) notes,
+      let m : _ = ap (λ z. z .instructions) (e .0 .size) in
+      let ends : _ = c .before .before .ends-size .ensures in (
+        pair-counts _ _ _ _ _ (q .0) (q .1) _ p _ (d .deeper .ensures) _ (e .0) ends (c .before .joined .ensures),
+        noting-pair _ _ _ _ _ _ _ _ (omega (arith, h .below, q .2)) m (omega (arith, e .0 .ended)) (e .2) (e .1),
       )
 
 pub +block-size+pair-size-spec : {M : Type 1} → statement M
@@ -225,12 +229,15 @@ pub +block-size+pair-size-spec : {M : Type 1} → statement M
     (pair-here t)
     pair-reads.Post
     (pair-line t)
+    (pair-next t)
     (pair-line-size t)
     (pair-deeper t)
-    (pair-next t)
     (pair-body t)
+    (pair-mul t)
     (pair-note t)
-    (pair-around t)
+    (pair-ends t)
+    (pair-joined t)
+    (pair-after t)
     (pair-returns t)
     (pair-length t)
     (pair-returns-2 t))

@@ -12,7 +12,8 @@ use Rattle.translation.proofs.Walks as W
 use Rattle.translation.proofs.Noting.{noted-counts}
 use Rattle.output.proofs.Puts.{put-length}
 use Rattle.translation.proofs.Written.{Writing, writing-none, writing-more, writing-all}
-use Rattle.translation.proofs.Written.{plain-asks, plain-writes, front-asks, back-asks, pair-writes}
+use Rattle.translation.proofs.Written.{plain-writes, pair-writes}
+use Rattle.translation.proofs.Counting.{closes-below}
 use Rattle.translation.proofs.writing.put_block.Reads as block-reads
 use Rattle.translation.proofs.writing.put_block.Kinds as block-kinds
 use Rattle.translation.proofs.writing.+put_block+put_pair.Lts-put_block as block
@@ -22,10 +23,9 @@ use Rattle.translation.proofs.writing.+put_block+put_pair.Lts-put_pair 
 use Rattle.translation.proofs.lines.begins.Reads as begins
 use Rattle.translation.proofs.lines.line_at.Reads as line-at
 use Rattle.translation.proofs.lines.deeper.Reads as deeper
-use Rattle.translation.proofs.bodies.noted.Reads as noted
-use Rattle.translation.proofs.writing.put_after.Reads as put-after
-use Rattle.translation.proofs.pieces.before_body.Reads as before-body
-use Rattle.translation.proofs.writing.put_line.Reads as put-line
+use Rattle.emit.proofs.plain_line.Reads as plain-line
+use Rattle.emit.proofs.before_body.Reads as before-body
+use Rattle.emit.proofs.after_body.Reads as after-body
 use Rattle.translation.proofs.writing.+put_block+put_pair.{statement}
 use Rattle.translation.proofs.writing.+put_block+put_pair.Tie.{close}
 
@@ -65,18 +65,16 @@ module _ (t : ℕ) where
   in-pair = (
     line-at.Asked,
     line-at.Learnt,
-    put-line.Asked,
-    put-line.Learnt,
+    plain-line.Asked,
+    plain-line.Learnt,
     deeper.Asked,
     deeper.Learnt,
-    noted.Asked,
-    noted.Learnt,
     before-body.Asked,
     before-body.Learnt,
     block-below,
     block-reads.Post,
-    put-after.Asked,
-    put-after.Learnt,
+    after-body.Asked,
+    after-body.Learnt,
   )
 
   block-holds : block.Need-loop-holds in-block block-at block-reads.Post Inv-loop μ-loop
@@ -105,7 +103,7 @@ module _ (t : ℕ) where
       writing-more _ _ _ _ _ _ _ _ _ _ _ _ (p .before .before .before .before .loop .inv) (p .put-pair .ensures)
 
   block-length : block.Need-same-length in-block block-at block-reads.Post Inv-loop μ-loop
-  block-length c = put-length (c .before .before .loop .inv .put)
+  block-length c = put-length (c .before .before .loop .inv .written .put)
 
   block-returns : block.Need-returns in-block block-at block-reads.Post Inv-loop μ-loop
   block-returns c =
@@ -117,35 +115,29 @@ module _ (t : ℕ) where
       let q : _ = c .before .before .before .pre .1 in
       W.here _ _ _ _ _ (q .0) (q .1) .numbers
 
-  pair-put-line : pair.Need-put-line-requires in-pair pair-here pair-reads.Post
-  pair-put-line c κs =
-      let l : _ = c .before .before .before in
-      let q : _ = l .before .before .before .before .pre .1 in
-      let p : _ = plain-at _ _ _ _ _ (q .0) (q .1) _ (l .line-at .ensures) (c .before .if1 .taken) in
-      plain-asks _ _ _ _ _ (q .0) (q .1) _ p
+  pair-next : pair.Need-add-first in-pair pair-here pair-reads.Post
+  pair-next c =
+      let q : _ = c .before .before .before .before .pre .1 in
+      omega (arith, W.here _ _ _ _ _ (q .0) (q .1) .below)
+
+  pair-plain : pair.Need-plain-line-requires in-pair pair-here pair-reads.Post
+  pair-plain c κs = search needs
 
   pair-deeper : pair.Need-deeper-requires in-pair pair-here pair-reads.Post
   pair-deeper c κs = omega (arith, bounds _ _ _ _ _ (c .before .before .before .before .before .before .pre .1 .0) .shallow)
 
-  pair-next : pair.Need-add-first in-pair pair-here pair-reads.Post
-  pair-next c =
+  pair-mul : pair.Need-mul-m in-pair pair-here pair-reads.Post
+  pair-mul c =
       let q : _ = c .before .before .before .before .before .before .before .pre .1 in
-      omega (arith, W.here _ _ _ _ _ (q .0) (q .1) .below)
+      omega (arith, W.here _ _ _ _ _ (q .0) (q .1) .below, bounds _ _ _ _ _ (q .0) .few-lines)
 
-  pair-noted : pair.Need-noted-requires in-pair pair-here pair-reads.Post
-  pair-noted c κs =
-      let q : _ = c .before .before .before .before .before .before .before .pre .1 in
+  pair-noted : pair.Need-shared-slice-read-m in-pair pair-here pair-reads.Post
+  pair-noted c =
+      let q : _ = c .before .before .before .before .before .before .before .before .pre .1 in
       omega (arith, W.here _ _ _ _ _ (q .0) (q .1) .below, q .2 .room)
 
   pair-front : pair.Need-before-body-requires in-pair pair-here pair-reads.Post
-  pair-front c κs =
-      let d : _ = c .before .before in
-      let l : _ = d .before .before .before in
-      let q : _ = l .before .before .before .before .pre .1 in
-      let p : _ = pair-at _ _ _ _ _ (q .0) (q .1) _ (l .line-at .ensures) (d .before .if1 .left) in
-      let low : _ = W.here _ _ _ _ _ (q .0) (q .1) .below in
-      let n : _ = noted-counts _ _ _ _ (q .2) _ _ _ _ low (q .1) (l .line-at .ensures) (d .before .if1 .left) (c .before .noted .ensures) in
-      front-asks _ _ _ _ _ (q .0) (q .1) _ p _ (d .deeper .ensures) _ n
+  pair-front c κs = search needs
 
   pair-body : pair.Need-put-block-requires in-pair pair-here pair-reads.Post
   pair-body c κs =
@@ -155,16 +147,18 @@ module _ (t : ℕ) where
       let p : _ = pair-at _ _ _ _ _ (q .0) (q .1) _ (l .line-at .ensures) (d .before .if1 .left) in
       (omega (arith, W.here _ _ _ _ _ (q .0) (q .1) .below), (rw (d .deeper .ensures) (p .site), q .2))
 
-  pair-back : pair.Need-put-after-requires in-pair pair-here pair-reads.Post
-  pair-back c κs =
-      let z : _ = c .before .before .before .before .before .before .before .before .before in
-      let d : _ = z .before in
+  pair-back : pair.Need-after-body-requires in-pair pair-here pair-reads.Post
+  pair-back c κs = search needs
+
+  pair-after : pair.Need-add-t21 in-pair pair-here pair-reads.Post
+  pair-after c =
+      let b : _ = c .before .before .before .before .before .before .before in
+      let d : _ = b .before .before .before .before .before .before .before in
       let l : _ = d .before .before .before in
       let q : _ = l .before .before .before .before .pre .1 in
       let p : _ = pair-at _ _ _ _ _ (q .0) (q .1) _ (l .line-at .ensures) (d .before .if1 .left) in
-      let low : _ = W.here _ _ _ _ _ (q .0) (q .1) .below in
-      let n : _ = noted-counts _ _ _ _ (q .2) _ _ _ _ low (q .1) (l .line-at .ensures) (d .before .if1 .left) (z .noted .ensures) in
-      back-asks _ _ _ _ _ (q .0) (q .1) _ p _ (d .deeper .ensures) _ n (c .before .before .before .put-block .ensures .ended)
+      let low : _ = closes-below _ _ _ _ _ (q .0) (q .1) _ p _ (d .deeper .ensures) (b .put-block .ensures .ended) in
+      omega (arith, low)
 
   pair-length : pair.Need-same-length in-pair pair-here pair-reads.Post
   pair-length c = search needs
@@ -175,25 +169,24 @@ module _ (t : ℕ) where
       let l : _ = w .before .before .before .before in
       let q : _ = l .before .before .before .before .pre .1 in
       let p : _ = plain-at _ _ _ _ _ (q .0) (q .1) _ (l .line-at .ensures) (w .before .before .if1 .taken) in
-      plain-writes _ _ _ _ _ (q .0) (q .1) _ p _ _ _ _ (w .put-line .ensures)
+      plain-writes _ _ _ _ _ (q .0) (q .1) _ p (w .plain-line .ensures)
 
   pair-length-2 : pair.Need-same-length-2 in-pair pair-here pair-reads.Post
   pair-length-2 c = search needs
 
   pair-returns-2 : pair.Need-returns-2 in-pair pair-here pair-reads.Post
   pair-returns-2 c =
-      let a : _ = c .before .before in
+      let a : _ = c .before .before .before in
       let b : _ = a .before .before .before .before in
       let f : _ = b .before .before .before .before in
-      let z : _ = f .before .before in
-      let d : _ = z .before in
+      let d : _ = f .before .before .before in
       let l : _ = d .before .before .before in
       let q : _ = l .before .before .before .before .pre .1 in
       let p : _ = pair-at _ _ _ _ _ (q .0) (q .1) _ (l .line-at .ensures) (d .before .if1 .left) in
       let low : _ = W.here _ _ _ _ _ (q .0) (q .1) .below in
-      let n : _ = noted-counts _ _ _ _ (q .2) _ _ _ _ low (q .1) (l .line-at .ensures) (d .before .if1 .left) (z .noted .ensures) in
-      pair-writes _ _ _ _ _ (q .0) (q .1) _ p _ (d .deeper .ensures) _ n _ _ _ _ _ _ _ _
-      (f .before-body .ensures .put) (b .put-block .ensures) (a .put-after .ensures)
+      let m : _ = noted-counts _ _ (q .2) _ _ low (q .1) (l .line-at .ensures) (d .before .if1 .left) in
+      pair-writes _ _ _ _ _ (q .0) (q .1) _ p _ (d .deeper .ensures) _ m
+      (f .before-body .ensures) (b .put-block .ensures) (a .after-body .ensures)
 
 pub +put-block+put-pair-spec : {M : Type 1} → statement M
 +put-block+put-pair-spec =
@@ -218,13 +211,15 @@ pub +put-block+put-pair-spec : {M : Type 1} → statement M
     (pair-here t)
     pair-reads.Post
     (pair-line t)
-    (pair-put-line t)
-    (pair-deeper t)
     (pair-next t)
+    (pair-plain t)
+    (pair-deeper t)
+    (pair-mul t)
     (pair-noted t)
     (pair-front t)
     (pair-body t)
     (pair-back t)
+    (pair-after t)
     (pair-length t)
     (pair-returns t)
     (pair-length-2 t)
