@@ -1,9 +1,6 @@
-pub mod Program
+pub mod Filling
 pub mod Stepping
 pub mod Bounds
-pub mod Entries
-pub mod Targets
 pub mod Underway
-pub mod Checks
 pub mod Results
-pub mod Reading
+pub mod Readiness
