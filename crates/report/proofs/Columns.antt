@@ -14,14 +14,15 @@ use Rattle.theory.specs.ProgramText.{above}
 use Rattle.theory.specs.RunSheet.{values, start, distinct}
 use Rattle.theory.specs.TurnedDown.{values-fault, sheet-fault, names-of}
 use Rattle.theory.specs.declared.Refusal.{Refusal}
-use Rattle.sheet.specs.Answers.{names-record, line-at, after-line, columns-of, starts, starts-as, row-answer}
+use Rattle.columns.specs.Columns.{starts}
+use Rattle.sheet.specs.Answers.{names-record, line-at, after-line, columns-of, starts-as, row-answer}
 use Rattle.sheet.specs.Answers.{checked-as, sheet-answer}
 use Rattle.sheet.specs.declared.answers.Names.{Names}
 use Rattle.sheet.specs.declared.answers.Sheet.{Sheet}
 use Rattle.sheet.specs.declared.answers.Checked.the-variants as C
 use Rattle.report.specs.Rows.{Given}
-use Rattle.sheet.proofs.Padded.{padded-take}
-use Rattle.sheet.proofs.Distinct.{different-below}
+use Rattle.columns.proofs.Padded.{padded-take}
+use Rattle.columns.proofs.Distinct.{different-below}
 use Rattle.sheet.proofs.Judged.{above-below}
 
 all-low : (K : ℕ) (ns : List ℕ) → above ns ≤ K → all (λ n. ltb n K) ns ≡ true

@@ -1,6 +1,6 @@
 -- What the entries hand back, by what the functions below them found.
-use mathlib.Core.Path.{_≡_, refl, sym, ap, _∙_}
-use mathlib.Core.Bool.{true, false}
+use mathlib.Core.Path.{_≡_, refl, sym, ap, ap₂, _∙_}
+use mathlib.Core.Bool.{true, false, _&&_}
 use mathlib.Core.Option.{Option, none, some}
 use mathlib.Core.List.{List, [], _∷_}
 use Prim.Native.Nat.{ℕ, _+_, _-_, _≤_, _<_, min}
@@ -11,20 +11,26 @@ use borrow.Author.Tests.{eqb-true}
 use Rattle.theory.specs.Basics.{all}
 use Rattle.theory.specs.Text.{Bytes, split-lines, ends-in-LF}
 use Rattle.theory.specs.ProgramText.{above}
-use Rattle.theory.specs.RunSheet.{names, values}
+use Rattle.theory.specs.RunSheet.{names, values, distinct}
 use Rattle.theory.specs.TurnedDown.{unless, names-fault, values-fault, rows-fault, names-of, sheet-size-fault, sheet-fault}
 use Rattle.theory.specs.declared.Refusal.{Refusal}
-use Rattle.theory.proofs.Faults.{none-first, none-second, unless-none, and-first}
+use Rattle.theory.proofs.Faults.{none-first, none-second, unless-none, and-first, and-second}
 use Rattle.sheet.specs.declared.answers.Names.{Names}
 use Rattle.sheet.specs.declared.answers.Row.{Row}
 use Rattle.sheet.specs.declared.answers.Sheet.{Sheet}
 use Rattle.sheet.specs.declared.answers.Fault.{Fault}
 use Rattle.sheet.specs.declared.answers.Fault.the-variants as F
 use Rattle.sheet.specs.declared.answers.Checked.the-variants as C
-use Rattle.sheet.specs.Answers.{padded, checked-as, sheet-answer, line-at, after-line, columns-of, starts, starts-as, row-answer}
-use Rattle.sheet.specs.Lines.{line-of, checked-rows, rows-as, is-sheet-size}
+use Rattle.columns.specs.Columns.{padded, fit-together, columns-as, starts}
+use Rattle.columns.proofs.Padded.{padded-take}
+use Rattle.columns.proofs.Distinct.{different-below, below-more}
+use Rattle.columns.proofs.Fitting.{variables-padded}
+use Rattle.fields.specs.declared.Line.{Line}
+use Rattle.fields.specs.Fields.{line-of}
+use Rattle.fields.proofs.Kept.{kept-all}
+use Rattle.sheet.specs.Answers.{checked-as, sheet-answer, line-at, after-line, columns-of, starts-as, row-answer}
+use Rattle.sheet.specs.Lines.{checked-rows, rows-as, is-sheet-size}
 use Rattle.sheet.proofs.Splits.{lines-next}
-use Rattle.sheet.proofs.Padded.{padded-take, kept-all}
 use Rattle.sheet.proofs.Judged.{at-most, above-below}
 
 -- A row
@@ -108,9 +114,20 @@ module _ (s : Bytes) (capacity K : ℕ) (sized : is-sheet-size s ≡ true) where
 
   module _ (passed : names-fault K (names (line-at s 0)) ≡ none) where
     -- The names, which are as the code keeps them
-    kept-names : (o : Option (List ℕ)) → names-fault K o ≡ none → (ns : List ℕ) × (o ≡ some ns) × (all (λ n. ltb n K) ns ≡ true)
+    kept-names : (o : Option (List ℕ)) → names-fault K o ≡ none
+        → (ns : List ℕ) × (o ≡ some ns) × (all (λ n. ltb n K) ns ≡ true) × (distinct ns ≡ true)
     kept-names none e = let never : _≡_ {A = ℕ} 0 1 = cc in absurd (omega arith)
-    kept-names (some ns) e = (ns, refl, sym (above-below K ns) ∙ and-first (leb (above ns) K) _ (unless-none _ 17 1 e))
+    kept-names (some ns) e =
+        let fine : _ = unless-none _ 17 1 e in
+        (ns, refl, sym (above-below K ns) ∙ and-first (leb (above ns) K) _ fine, and-second (leb (above ns) K) _ fine)
+
+    -- and as its columns
+    kept-columns : (ns : List ℕ) → K ≤ 32 → all (λ n. ltb n K) ns ≡ true → distinct ns ≡ true
+        → columns-as (length ns) (padded ns) .variables ≡ padded ns
+    kept-columns ns h low differ =
+        let fit : fit-together ns ≡ true = ap₂ _&&_ (below-more K 32 ns h low) differ in
+        let few : length ns ≤ K = different-below K ns low differ in
+        variables-padded ns (omega arith) fit
 
     rows-faulty : (f : Option Refusal) (m : ℕ) (r : Refusal) → C.Refused r ≡ checked-rows f m → f ≡ some r
     rows-faulty none m r e = cc
@@ -131,16 +148,18 @@ module _ (s : Bytes) (capacity K : ℕ) (sized : is-sheet-size s ≡ true) where
         let faulty : rows-fault capacity (length (k .0)) 2 rest ≡ some r = rw size at found in
         rw (sized, lines, passed, names-some (line-at s 0) rest (k .0) (k .1), faulty)
 
-    pub sheet-done : (count rows : ℕ) (columns : List ℕ) → count ≡ line-of K (names (line-at s 0)) .count
-        → columns ≡ line-of K (names (line-at s 0)) .numbers
-        → C.Accepted rows ≡ rows-as capacity count (split-lines (drop (after-line s 0) s))
-        → record { names = record { columns = columns; count = count }; checked = C.Accepted rows } ≡ sheet-answer capacity K s
+    pub sheet-done : (line : Line) (rows : ℕ) (columns : List ℕ) → K ≤ 32 → line ≡ line-of K (names (line-at s 0))
+        → columns ≡ columns-as (line .count) (line .numbers) .variables
+        → C.Accepted rows ≡ rows-as capacity (line .count) (split-lines (drop (after-line s 0) s))
+        → record { names = record { columns = columns; count = line .count }; checked = C.Accepted rows } ≡ sheet-answer capacity K s
     unfolding is-sheet-size sheet-answer sheet-fault sheet-size-fault rows-as line-of rest
-    sheet-done count rows columns c x e =
+    sheet-done line rows columns low l x e =
         let k : _ = kept-names (names (line-at s 0)) passed in
-        let size : count ≡ length (k .0) = rw (k .1) at c in
-        let cells : columns ≡ padded (k .0) = rw (k .1, kept-all K (k .0) (k .2)) at x in
-        let fine : _ = rows-passed (rows-fault capacity count 2 rest) (length rest) rows e in
+        let kept : line ≡ line-of K (some (k .0)) = rw (k .1) at l in
+        let size : line .count ≡ length (k .0) = ap (λ (m : Line). m .count) kept in
+        let named : columns-as (line .count) (line .numbers) .variables ≡ padded (k .0) =
+        rw (kept, kept-all K (k .0) (k .2)) (kept-columns (k .0) low (k .2) (k .3)) in
+        let fine : _ = rows-passed (rows-fault capacity (line .count) 2 rest) (length rest) rows e in
         let clean : rows-fault capacity (length (k .0)) 2 rest ≡ none = rw size at (fine .0) in
         let counted : rows ≡ length (line-at s 0 ∷ rest) - 1 = omega (arith, fine .1) in
-        rw (sized, lines, passed, names-some (line-at s 0) rest (k .0) (k .1), clean) (sheet-same cells size counted)
+        rw (sized, lines, passed, names-some (line-at s 0) rest (k .0) (k .1), clean) (sheet-same (x ∙ named) size counted)

@@ -1,12 +1,12 @@
 -- Rules 16 to 18: what the code's tests on a line say of the definitions' verdict, row after row, and of the whole sheet.
-use mathlib.Core.Path.{_≡_, refl, ap, ap₂, _∙_}
+use mathlib.Core.Path.{_≡_, refl, sym, ap, ap₂, _∙_}
 use mathlib.Core.Bool.{Bool, true, false, cond, _&&_}
 use mathlib.Core.Option.{Option, none, some}
 use mathlib.Core.List.{List, [], _∷_, map}
 use Prim.Native.Nat.{ℕ, suc, _+_, _-_, _≤_, _<_, max}
 use native.Mathlib.Numerals.{add-one}
 use native.Mathlib.Omega.{arith}
-use lib.ListN.{length, take, getD}
+use lib.ListN.{length, getD}
 use lib.Dec.{eqb, leb, ltb, leb·suc-suc}
 use borrow.Author.Tests.{leb-true, leb-false, le-leb, lt-leb, ltb-true, ltb-false}
 use Rattle.theory.specs.Basics.{or-else, all}
@@ -14,10 +14,14 @@ use Rattle.theory.specs.Text.{Bytes, LF, ends-in-LF}
 use Rattle.theory.specs.ProgramText.{above}
 use Rattle.theory.specs.RunSheet.{names, values, distinct}
 use Rattle.theory.specs.TurnedDown.{unless, names-fault, values-fault}
-use Rattle.sheet.specs.Answers.{fault-as, padded}
-use Rattle.sheet.specs.Lines.{line-of, line-fault, names-line-fault, numbers-of, under, fault-of, is-sheet-size}
-use Rattle.sheet.proofs.Distinct.{AllBelow, different-below}
-use Rattle.sheet.proofs.Padded.{padded-take, kept-all}
+use Rattle.columns.specs.Columns.{padded, is-variable, columns-as}
+use Rattle.columns.proofs.Distinct.{AllBelow, different-below, below-more}
+use Rattle.columns.proofs.Fitting.{fit-many, fit-padded}
+use Rattle.fields.specs.declared.Line.{Line}
+use Rattle.fields.specs.Fields.{line-of, numbers-of, under}
+use Rattle.fields.proofs.Kept.{kept-all}
+use Rattle.sheet.specs.Answers.{fault-as}
+use Rattle.sheet.specs.Lines.{line-fault, names-line-fault, fault-of, is-sheet-size}
 
 -- The two ways to read a line
 pub numbers-names : (l : Bytes) → numbers-of true l ≡ names l
@@ -72,21 +76,33 @@ too-many K ns h below many = go (distinct ns) refl
     go true e = absurd (omega (arith, different-below K ns below e))
     go false e = e
 
-pub names-judged : (K : ℕ) (o : Option (List ℕ)) → K ≤ 32 → names-line-fault (line-of K o) ≡ fault-as (names-fault K o)
+-- Whether the numbers of a line fit together as columns
+abbrev pub fits : Line → Bool
+fits l = columns-as (l .count) (l .numbers) .fit
+
+pub names-judged : (K : ℕ) (o : Option (List ℕ)) → K ≤ 32
+    → names-line-fault (line-of K o) (fits (line-of K o)) ≡ fault-as (names-fault K o)
 unfolding line-of names-line-fault
 names-judged K none h = refl
-names-judged K (some ns) h = rw (above-below K ns) (go (all (λ n. ltb n K) ns) (leb (length ns) 32) refl refl)
+names-judged K (some ns) h = rw (above-below K ns) (go (all (λ n. ltb n K) ns) refl)
   where
     verdict : (b : Bool) → cond b (fault-as none) (fault-of 17 1) ≡ fault-as (unless b 17 1)
     verdict true = refl
     verdict false = refl
 
-    go : (below few : Bool) → all (λ n. ltb n K) ns ≡ below → leb (length ns) 32 ≡ few
-        → cond (below && few && distinct (take (length ns) (padded (map (under K) ns)))) (fault-as none) (fault-of 17 1)
+    fitting : (few : Bool) → AllBelow K ns → leb (length ns) 32 ≡ few → columns-as (length ns) (padded ns) .fit ≡ distinct ns
+    fitting true e f =
+        let low : all is-variable ns ≡ true = below-more K 32 ns h e in
+        fit-padded ns (leb-true (length ns) 32 f) ∙ rw low
+    fitting false e f =
+        let many : 32 < length ns = leb-false (length ns) 32 f in
+        fit-many ns (padded ns) many ∙ sym (too-many K ns h e many)
+
+    go : (below : Bool) → all (λ n. ltb n K) ns ≡ below
+        → cond (below && columns-as (length ns) (padded (map (under K) ns)) .fit) (fault-as none) (fault-of 17 1)
         ≡ fault-as (unless (below && distinct ns) 17 1)
-    go false few e f = refl
-    go true true e f = rw (kept-all K ns e, padded-take ns (leb-true (length ns) 32 f)) (verdict (distinct ns))
-    go true false e f = rw (too-many K ns h e (leb-false (length ns) 32 f))
+    go false e = refl
+    go true e = rw (kept-all K ns e, fitting (leb (length ns) 32) e refl) (verdict (distinct ns))
 
 -- The size rules of 16
 

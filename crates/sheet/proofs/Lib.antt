@@ -1,9 +1,4 @@
 pub mod Splits
-pub mod Numbers
-pub mod Places
-pub mod Padded
-pub mod Reading
-pub mod Distinct
 pub mod Judged
 pub mod Along
 pub mod Answered

@@ -2,23 +2,19 @@
 use mathlib.Core.Option.{Option, none, some}
 use mathlib.Core.List.{List, [], _∷_}
 use Prim.Native.Nat.{ℕ, _+_, _-_, min}
-use lib.ListN.{length, take, drop, getD}
+use lib.ListN.{length, take, drop}
 use Rattle.theory.specs.Limits
-use Rattle.theory.specs.Basics.{cells}
 use Rattle.theory.specs.Text.{Bytes, split-lines}
-use Rattle.theory.specs.RunSheet.{values, start}
+use Rattle.theory.specs.RunSheet.{values}
 use Rattle.theory.specs.TurnedDown.{values-fault, names-of, sheet-fault}
 use Rattle.theory.specs.declared.Refusal.{Refusal}
+use Rattle.columns.specs.Columns.{padded, starts}
 use Rattle.sheet.specs.declared.answers.Names.{Names}
 use Rattle.sheet.specs.declared.answers.Checked.the-variants as C
 use Rattle.sheet.specs.declared.answers.Sheet.{Sheet}
 use Rattle.sheet.specs.declared.answers.Fault.{Fault}
 use Rattle.sheet.specs.declared.answers.Fault.the-variants as F
 use Rattle.sheet.specs.declared.answers.Row.{Row}
-
--- 32 cells: those of a list, and 0 behind them
-unfoldable pub padded : List ℕ → List ℕ
-padded l = cells Limits.state-values (λ i. getD l i 0)
 
 -- A sheet checked: on a refusal no names are handed back
 
@@ -55,9 +51,6 @@ fault-as none = F.None
 fault-as (some r) = F.Refused r
 
 -- The values that all variables start at; 0 where the line is turned down
-unfoldable pub starts : List ℕ → List ℕ → List ℕ
-starts ns vs = cells Limits.state-values (start ns vs)
-
 abbrev pub starts-as : Option Refusal → List ℕ → Option (List ℕ) → List ℕ
 starts-as none ns none = padded []
 starts-as none ns (some vs) = starts ns vs

@@ -1,4 +1,5 @@
 // The types that this crate's entries take and hand back.
+use columns::Columns;
 use theory::Refusal;
 
 // The names line of a sheet, read: the variables of the columns in order, the first `count` of the array.
@@ -8,7 +9,7 @@ pub struct Names {
 }
 
 impl Names {
-    pub const COLUMNS: usize = 32;
+    pub const COLUMNS: usize = Columns::MOST;
 }
 
 // The number of rows, or the first refusal that applies.

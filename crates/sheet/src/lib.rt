@@ -1,19 +1,15 @@
 // Run sheets (document 01, "Run sheet and run tool"): a sheet checked against a program by rules 16 to 18, and a line of values read into
 // what a run starts at.
 mod answers; // answers.rt: what the entries take and hand back
-mod columns; // columns.rt: names and values by column
-mod fields; // fields.rt: where a line or a field ends, and the numbers of a line
 
 pub use answers::Checked;
 pub use answers::Fault;
 pub use answers::Names;
 pub use answers::Row;
 pub use answers::Sheet;
-use columns::are_distinct;
-use columns::narrowed;
+use columns::named_columns;
 use columns::spread;
 use fields::Line;
-use fields::least;
 use fields::read_line;
 use text::find;
 use theory::Refusal;
@@ -24,13 +20,19 @@ ghost use Prim.Native.Nat.{_≤_, min};
 ghost use lib.ListN.{length, drop};
 ghost use Rattle.theory.specs.Text.{split-lines};
 ghost use Rattle.sheet.specs.Answers.{sheet-answer, row-answer, checked-as, after-line};
-ghost use Rattle.sheet.specs.Lines.{fault-of, line-fault, names-line-fault, Low, Scans, rows-as, is-sheet-size};
+ghost use Rattle.sheet.specs.Lines.{fault-of, line-fault, names-line-fault, Scans, rows-as, is-sheet-size};
 
 // The numbers of a line of values, before they go to their variables.
 struct Scanned {
     numbers: [u32; Names::COLUMNS],
     next: usize,
     fault: Fault,
+}
+
+fn least(a: usize, b: usize) -> usize
+    ensures { λ r. ⌜ r ≡ min a b ⌝ }
+{
+    if a < b { a } else { b }
 }
 
 fn turned_down(number: u32, place: usize) -> Fault
@@ -56,10 +58,9 @@ fn line_fault(line: Line, count: usize, n: usize) -> Fault
     }
 }
 
-// Rules 16 and 17, for the line of names.
-fn names_fault(line: Line) -> Fault
-    requires { ⌜ Low (line .numbers) ⌝ }
-    ensures { λ r. ⌜ r ≡ names-line-fault line ⌝ }
+// Rules 16 and 17, for the line of names, whose numbers fit together as columns or don't.
+fn names_fault(line: Line, fit: bool) -> Fault
+    ensures { λ r. ⌜ r ≡ names-line-fault line fit ⌝ }
 {
     if !line.shaped {
         return turned_down(16, 1);
@@ -67,15 +68,7 @@ fn names_fault(line: Line) -> Fault
     if !line.below {
         return turned_down(17, 1);
     }
-    if Names::COLUMNS < line.count {
-        return turned_down(17, 1);
-    }
-    let numbers = line.numbers;
-    if are_distinct(numbers, line.count) {
-        Fault::None
-    } else {
-        turned_down(17, 1)
-    }
+    if fit { Fault::None } else { turned_down(17, 1) }
 }
 
 // The line that begins at `at`, as line `n` of values.
@@ -155,7 +148,9 @@ pub fn check(sheet: &[u8], variables: usize, capacity: u32) -> Sheet
         true,
         least(variables, Names::COLUMNS) as u64,
     );
-    let found = names_fault(line);
+    let numbers = line.numbers;
+    let columns = named_columns(numbers, line.count);
+    let found = names_fault(line, columns.fit);
     match found {
         Fault::None => {}
         Fault::Refused(r) => return refused(r),
@@ -164,11 +159,10 @@ pub fn check(sheet: &[u8], variables: usize, capacity: u32) -> Sheet
     match rows(sheet, line.count, capacity, next) {
         Checked::Refused(r) => refused(r),
         Checked::Accepted(count) => {
-            let numbers = line.numbers;
-            let columns = narrowed(numbers);
+            let variables = columns.variables;
             Sheet {
                 names: Names {
-                    columns,
+                    columns: variables,
                     count: line.count,
                 },
                 checked: Checked::Accepted(count),

@@ -12,13 +12,14 @@ use Rattle.theory.specs.Text.{Bytes, split-lines}
 use Rattle.theory.specs.RunSheet.{names}
 use Rattle.theory.specs.TurnedDown.{names-fault}
 use Rattle.theory.specs.declared.Refusal.{Refusal}
-use Rattle.sheet.specs.declared.fields.Line.{Line}
+use Rattle.columns.specs.declared.Columns.{Columns}
+use Rattle.fields.specs.declared.Line.{Line}
+use Rattle.fields.specs.Fields.{most, line-of}
 use Rattle.sheet.specs.declared.answers.Checked.the-variants as C
 use Rattle.sheet.specs.Answers.{line-at, after-line, fault-as}
-use Rattle.sheet.specs.Lines.{line-of, names-line-fault, rows-as, is-sheet-size, Low}
+use Rattle.sheet.specs.Lines.{names-line-fault, rows-as, is-sheet-size}
 use Rattle.sheet.proofs.Splits.{part-end, part-line, part-next}
-use Rattle.sheet.proofs.Padded.{line-low}
-use Rattle.sheet.proofs.Judged.{numbers-names, names-judged}
+use Rattle.sheet.proofs.Judged.{fits, numbers-names, names-judged}
 use Rattle.sheet.proofs.Along.{no-fault, some-fault}
 use Rattle.sheet.proofs.Answered.{sheet-unsized, sheet-names-refused, sheet-rows-refused, sheet-done}
 use Rattle.sheet.proofs.check.Statement.{statement}
@@ -58,7 +59,7 @@ least-requires : tie.Need-least-requires
 least-requires c κs = search needs
 
 read-line-requires : tie.Need-read-line-requires
-read-line-requires c κs = omega (arith, c .least .ensures)
+read-line-requires c κs = search needs
 
 -- What is known where the line of names is read
 
@@ -78,24 +79,25 @@ read c =
     let e : _ = c .before .before .before in
     let part : _ = part-line (sheet c) 0 0 (e .find .result) (omega arith) (e .find .ensures) in
     let o : Option (List ℕ) = names (line-at (sheet c) 0) in
-    rw (part, numbers-names (line-at (sheet c) 0)) at (c .read-line .ensures) ∙ ap (λ k. line-of k o) (c .before .least .ensures)
-
-low : (c : tie.After-read-line) → Low (c .read-line .result .numbers)
-low c = rw (read c) (line-low (K c) (names (line-at (sheet c) 0)) (omega arith))
+    let bound : min (c .before .least .result) most ≡ K c = omega (arith, c .before .least .ensures) in
+    rw (part, numbers-names (line-at (sheet c) 0)) at (c .read-line .ensures) ∙ ap (λ k. line-of k o) bound
 
 first-fault : tie.After-read-line → Option Refusal
 first-fault c = names-fault (K c) (names (line-at (sheet c) 0))
 
-verdict : (c : tie.After-names-fault) → c .names-fault .result ≡ fault-as (first-fault (c .before))
+verdict : (c : tie.After-names-fault) → c .names-fault .result ≡ fault-as (first-fault (c .before .before .before))
 unfolding first-fault
 verdict c =
-    let o : Option (List ℕ) = names (line-at (sheet (c .before)) 0) in
-    c .names-fault .ensures ∙ ap names-line-fault (read (c .before)) ∙ names-judged (K (c .before)) o (omega arith)
+    let l : _ = c .before .before .before in
+    let o : Option (List ℕ) = names (line-at (sheet l) 0) in
+    let fit : _ = ap (λ (k : Columns). k .fit) (c .before .named-columns .ensures) in
+    c .names-fault .ensures ∙ ap (names-line-fault (l .read-line .result)) fit
+    ∙ ap (λ (m : Line). names-line-fault m (fits m)) (read l) ∙ names-judged (K l) o (omega arith)
 
 -- Past the line of names, which has no fault
 
-passed : (c : tie.After-enum-told) → first-fault (c .before .before .before) ≡ none
-passed c = no-fault (first-fault (c .before .before .before)) (sym (c .enum-told .given .1) ∙ verdict (c .before .before))
+passed : (c : tie.After-enum-told) → first-fault (c .before .before .before .before .before) ≡ none
+passed c = no-fault (first-fault (c .before .before .before .before .before)) (sym (c .enum-told .given .1) ∙ verdict (c .before .before))
 
 count : (c : tie.After-read-line) → c .read-line .result .count ≡ line-of (K c) (names (line-at (sheet c) 0)) .count
 count c = ap (λ (l : Line). l .count) (read c)
@@ -108,8 +110,11 @@ next c =
     let e : _ = c .before .before .before in
     part-next (sheet c) 0 0 (e .find .result) (omega arith) (e .find .ensures)
 
+named-columns-requires : tie.Need-named-columns-requires
+named-columns-requires c κs = search needs
+
 names-fault-requires : tie.Need-names-fault-requires
-names-fault-requires c κs = low c
+names-fault-requires c κs = search needs
 
 enum-told : tie.Need-enum-told
 enum-told c = search needs
@@ -124,7 +129,7 @@ returns-2 : tie.Need-returns-2
 unfolding first-fault
 returns-2 c =
     let n : _ = c .before .before .before .before in
-    let l : _ = n .before in
+    let l : _ = n .before .before .before in
     let f : _ = c .before .before .found .given in
     let faulty : first-fault l ≡ some (f .0 .0) = some-fault (first-fault l) (f .0 .0) (sym (f .1) ∙ verdict n) in
     let capacity : ℕ = l .before .before .before .before .before .before .before .args .capacity in
@@ -132,8 +137,8 @@ returns-2 c =
 
 add-least : tie.Need-add-least
 add-least c =
-    let s : _ = c .before .before .before .before .before .before .before .before .before .before in
-    omega (arith, within (c .before .before .before .before .before .before), s .good .0 .1)
+    let s : _ = c .before .before .before .before .before .before .before .before .before .before .before .before in
+    omega (arith, within (c .before .before .before .before .before .before .before .before), s .good .0 .1)
 
 least-requires-2 : tie.Need-least-requires-2
 least-requires-2 c κs = search needs
@@ -150,15 +155,12 @@ refused-requires-3 c κs = search needs
 enum-known-count : tie.Need-enum-known-count
 enum-known-count c = search needs
 
-narrowed-requires : tie.Need-narrowed-requires
-narrowed-requires c κs = low (c .before .before .before .before .before .before .before .before .before)
-
 returns-3 : tie.Need-returns-3
 unfolding first-fault rest
 returns-3 c =
     let w : _ = c .before .before .before .before in
     let e : _ = w .before .before in
-    let l : _ = e .before .before .before in
+    let l : _ = e .before .before .before .before .before in
     let r : _ = c .before .before .r .given in
     let capacity : ℕ = l .before .before .before .before .before .before .before .args .capacity in
     let faulty : C.Refused (r .0 .0) ≡ rows-as capacity (l .read-line .result .count) (rest l) =
@@ -169,15 +171,16 @@ returns-3 c =
 returns-4 : tie.Need-returns-4
 unfolding first-fault rest
 returns-4 c =
-    let w : _ = c .before .before .before .before .before in
+    let w : _ = c .before .before .before .before in
     let e : _ = w .before .before in
-    let l : _ = e .before .before .before in
-    let n : _ = c .before .before .before .count .given in
+    let l : _ = e .before .before .before .before .before in
+    let line : Line = l .read-line .result in
+    let n : _ = c .before .before .count .given in
     let capacity : ℕ = l .before .before .before .before .before .before .before .args .capacity in
-    let fine : C.Accepted (n .0 .0) ≡ rows-as capacity (l .read-line .result .count) (rest l) =
+    let fine : C.Accepted (n .0 .0) ≡ rows-as capacity (line .count) (rest l) =
     rw (w .before .least2 .ensures ∙ next l) at (sym (n .1) ∙ w .rows .ensures) in
-    sheet-done (sheet l) capacity (K l) (sized l) (passed e) (l .read-line .result .count) (n .0 .0) (c .narrowed .result) (count l)
-    (c .narrowed .ensures ∙ ap (λ (l : Line). l .numbers) (read l)) fine
+    let named : _ = ap (λ (k : Columns). k .variables) (e .before .before .before .named-columns .ensures) in
+    sheet-done (sheet l) capacity (K l) (sized l) (passed e) line (n .0 .0) _ (omega arith) (read l) named fine
 
 pub check-spec : {M : Type 1} → statement M
 check-spec =
@@ -192,6 +195,7 @@ check-spec =
     part-read-line-end
     least-requires
     read-line-requires
+    named-columns-requires
     names-fault-requires
     enum-told
     enum-known-found
@@ -203,6 +207,5 @@ check-spec =
     enum-known-r
     refused-requires-3
     enum-known-count
-    narrowed-requires
     returns-3
     returns-4)

@@ -5,7 +5,8 @@ use native.Mathlib.Omega.{arith}
 use borrow.Author.Needs.{needs}
 use lib.ListN.{length}
 use Rattle.theory.specs.Text.{LF}
-use Rattle.sheet.proofs.Splits.{before-within, line-length}
+use Rattle.fields.proofs.Splits.{before-within}
+use Rattle.sheet.proofs.Splits.{line-length}
 use Rattle.sheet.proofs.first_row.Statement.{statement}
 use Rattle.sheet.proofs.first_row.Tie as tie
 

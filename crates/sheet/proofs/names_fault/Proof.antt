@@ -1,10 +1,8 @@
 -- `names_fault` meets its contract: the definition makes the same tests.
-use mathlib.Core.Path.{_≡_, sym, _∙_}
+use mathlib.Core.Path.{_≡_}
 use mathlib.Core.Bool.{true, false}
 use borrow.Author.Needs.{needs}
-use borrow.Author.Tests.{le-leb, lt-leb, not-true, not-false}
-use lib.ListN.{take}
-use Rattle.theory.specs.RunSheet.{distinct}
+use borrow.Author.Tests.{not-true, not-false}
 use Rattle.sheet.specs.Lines.{names-line-fault}
 use Rattle.sheet.proofs.names_fault.Statement.{statement}
 use Rattle.sheet.proofs.names_fault.Tie as tie
@@ -33,36 +31,20 @@ turned-down-requires-3 c κs = search needs
 returns-3 : tie.Need-returns-3
 unfolding names-line-fault
 returns-3 c =
-    let l : _ = c .before .before .before .before .before .before .before .args .line in
-    let shaped : l .shaped ≡ true = not-false (l .shaped) (c .before .before .before .before .before .if1 .left) in
-    let below : l .below ≡ true = not-false (l .below) (c .before .before .before .if2 .left) in
-    rw (shaped, below, lt-leb (l .count) 32 (c .before .if3 .taken)) (c .turned-down3 .ensures)
-
-are-distinct-requires : tie.Need-are-distinct-requires
-are-distinct-requires c κs = search needs
-
-turned-down-requires-4 : tie.Need-turned-down-requires-4
-turned-down-requires-4 c κs = search needs
+    let u : _ = c .before .before in
+    let l : _ = u .before .before .before .args .line in
+    let shaped : l .shaped ≡ true = not-false (l .shaped) (u .before .if1 .left) in
+    let below : l .below ≡ true = not-false (l .below) (c .before .if2 .left) in
+    rw (shaped, below, c .if3 .taken)
 
 returns-4 : tie.Need-returns-4
 unfolding names-line-fault
 returns-4 c =
     let u : _ = c .before .before .before in
-    let l : _ = u .before .before .before .before .before .before .args .line in
-    let shaped : l .shaped ≡ true = not-false (l .shaped) (u .before .before .before .before .if1 .left) in
-    let below : l .below ≡ true = not-false (l .below) (u .before .before .if2 .left) in
-    let differ : distinct (take (l .count) (l .numbers)) ≡ true = sym (c .before .are-distinct .ensures) ∙ c .if4 .taken in
-    rw (shaped, below, le-leb (l .count) 32 (u .if3 .left), differ)
-
-returns-5 : tie.Need-returns-5
-unfolding names-line-fault
-returns-5 c =
-    let u : _ = c .before .before .before .before in
-    let l : _ = u .before .before .before .before .before .before .args .line in
-    let shaped : l .shaped ≡ true = not-false (l .shaped) (u .before .before .before .before .if1 .left) in
-    let below : l .below ≡ true = not-false (l .below) (u .before .before .if2 .left) in
-    let twice : distinct (take (l .count) (l .numbers)) ≡ false = sym (c .before .before .are-distinct .ensures) ∙ c .before .if4 .left in
-    rw (shaped, below, le-leb (l .count) 32 (u .if3 .left), twice) (c .turned-down4 .ensures)
+    let l : _ = u .before .before .before .args .line in
+    let shaped : l .shaped ≡ true = not-false (l .shaped) (u .before .if1 .left) in
+    let below : l .below ≡ true = not-false (l .below) (c .before .before .if2 .left) in
+    rw (shaped, below, c .before .if3 .left) (c .turned-down3 .ensures)
 
 pub names-fault-spec : {M : Type 1} → statement M
 names-fault-spec =
@@ -74,7 +56,4 @@ names-fault-spec =
     returns-2
     turned-down-requires-3
     returns-3
-    are-distinct-requires
-    turned-down-requires-4
-    returns-4
-    returns-5)
+    returns-4)

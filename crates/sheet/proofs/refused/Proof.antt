@@ -1,6 +1,6 @@
 -- `refused` meets its contract: 32 zeros are the cells of the empty list.
 use mathlib.Core.Path.{refl}
-use Rattle.sheet.specs.Answers.{padded}
+use Rattle.columns.specs.Columns.{padded}
 use Rattle.sheet.proofs.refused.Statement.{statement}
 use Rattle.sheet.proofs.refused.Tie as tie
 

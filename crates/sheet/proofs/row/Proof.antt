@@ -3,12 +3,12 @@ use mathlib.Core.Path.{_≡_, sym, _∙_}
 use mathlib.Core.List.{List}
 use mathlib.Core.Option.{none, some}
 use Prim.Native.Nat.{ℕ}
-use native.Mathlib.Omega.{arith}
 use borrow.Author.Needs.{needs}
 use lib.ListN.{length, length-map}
 use Rattle.theory.specs.RunSheet.{values}
 use Rattle.theory.specs.TurnedDown.{values-fault}
-use Rattle.sheet.specs.Answers.{padded, line-at}
+use Rattle.columns.specs.Columns.{padded}
+use Rattle.sheet.specs.Answers.{line-at}
 use Rattle.sheet.proofs.Along.{no-fault, some-fault}
 use Rattle.sheet.proofs.Answered.{row-done, row-refused}
 use Rattle.sheet.proofs.row.Statement.{statement}
@@ -24,7 +24,7 @@ enum-told : tie.Need-enum-told
 enum-told c = search needs
 
 spread-requires : tie.Need-spread-requires
-spread-requires c κs = omega (arith, c .before .before .before .before .before .least .ensures)
+spread-requires c κs = search needs
 
 enum-known-found : tie.Need-enum-known-found
 enum-known-found c = search needs

@@ -1,14 +1,15 @@
 -- `scan` meets its contract: the part that it reads is the line, and the line is judged as the definition judges its values.
 use mathlib.Core.Path.{_≡_, ap, _∙_}
 use mathlib.Core.List.{List}
-use Prim.Native.Nat.{ℕ, _+_, _≤_}
+use Prim.Native.Nat.{ℕ, _+_, _≤_, min}
 use native.Mathlib.Omega.{arith}
 use borrow.Author.Needs.{needs}
 use lib.ListN.{length}
 use Rattle.theory.specs.RunSheet.{values}
-use Rattle.sheet.specs.declared.fields.Line.{Line}
+use Rattle.fields.specs.declared.Line.{Line}
+use Rattle.fields.specs.Fields.{most, line-of}
 use Rattle.sheet.specs.Answers.{line-at}
-use Rattle.sheet.specs.Lines.{line-of, line-fault}
+use Rattle.sheet.specs.Lines.{line-fault}
 use Rattle.sheet.proofs.Splits.{part-end, part-line, part-next}
 use Rattle.sheet.proofs.Judged.{numbers-values, values-judged}
 use Rattle.sheet.proofs.scan.Statement.{statement}
@@ -62,8 +63,9 @@ returns c =
     let end : ℕ = e .find .result in
     let part : _ = part-line s (a .at) from end (e .before .least .ensures) (e .find .ensures) in
     let next : _ = part-next s (a .at) from end (e .before .least .ensures) (e .find .ensures) in
+    let exact : min (a .capacity + 1) most ≡ a .capacity + 1 = omega arith in
     let read : u .read-line .result ≡ line-of (a .capacity + 1) (values (line-at s (a .at))) =
-    rw (part, numbers-values (line-at s (a .at))) at (u .read-line .ensures) in
+    rw (part, numbers-values (line-at s (a .at)), exact) at (u .read-line .ensures) in
     record {
       numbers-read = ap (λ (l : Line). l .numbers) read;
       next-line = c .before .least2 .ensures ∙ next;
