@@ -5,10 +5,10 @@ use Prim.Native.Nat.{_+_, _-_, _≤_, _<_}
 use native.Mathlib.Omega.{arith}
 use borrow.Author.Needs.{needs}
 use lib.ListN.{length, drop}
-use Rattle.word.specs.Plain.{rises}
-use Rattle.word.proofs.Plain.{rises-up, rises-level, rises-end}
-use Rattle.word.proofs.passing.rises_of.Statement.{statement}
-use Rattle.word.proofs.passing.rises_of.Tie as tie
+use Rattle.counting.specs.Counts.{rises}
+use Rattle.counting.proofs.Rising.{rises-up, rises-level, rises-end}
+use Rattle.counting.proofs.rises_of.Statement.{statement}
+use Rattle.counting.proofs.rises_of.Tie as tie
 
 abbrev Inv-loop : tie.InvT-loop
 Inv-loop part last n₀ i₀ n i = (i ≤ last) × (n ≤ i) × (n + rises (drop i part) ≡ rises part)

@@ -1,14 +1,12 @@
-// Most words pass rules 11 to 14, which is seen by loops over the whole word that have no early end, so that many bytes are tested at once.
+// Most words are made of instructions alone, which is seen by loops over the whole word that have no early end, so that many bytes are
+// tested at once: how many instructions a word has where rules 12 and 13 let it pass.
 ghost use mathlib.Core.Path.{_≡_};
 ghost use mathlib.Core.Bool.{true};
-ghost use Prim.Native.Nat.{ℕ, _+_, _-_, _≤_, _<_, min, max};
-ghost use lib.ListN.{length, drop};
-ghost use Rattle.theory.specs.TurnedDown.{read-word};
-ghost use Rattle.word.specs.Answers.{read-answer};
-ghost use Rattle.word.specs.Scan.{symbols};
-ghost use Rattle.word.specs.Plain.{rises as rises-in, top};
-use crate::answers::Instruction;
-use crate::answers::Read;
+ghost use Prim.Native.Nat.{_+_, _-_, _≤_, min, max};
+ghost use lib.ListN.{length};
+ghost use Rattle.theory.specs.Basics.{all};
+ghost use Rattle.theory.specs.Word.{is-symbol};
+ghost use Rattle.counting.specs.Counts.{instruction-count, is-sixless, rises as rises-in};
 
 fn distance(a: u8, b: u8) -> u8
     ensures { λ r. ⌜ r ≡ (a - b) + (b - a) ⌝ }
@@ -23,7 +21,7 @@ const AWAY: u8 = 7;
 
 // Whether every byte is a 1 or a #.
 fn all_symbols(word: &[u8]) -> bool
-    ensures { λ r. ⌜ (r ≡ true → symbols (now (word .entry)) ≡ length (now (word .entry))) ⌝ }
+    ensures { λ r. ⌜ r ≡ all is-symbol (now (word .entry)) ⌝ }
 {
     let mut ok = true;
     let mut i: usize = 0;
@@ -42,11 +40,14 @@ fn larger(a: u8, b: u8) -> u8
     if a < b { b } else { a }
 }
 
-// Whether of six bytes that stand together one is at least a 1, everywhere in a word of six bytes at least.
+// Whether of six bytes that stand together one is a 1, everywhere in a word of 1s and #s.
 fn few_hashes(word: &[u8]) -> bool
-    requires { ⌜ 6 ≤ length (now word) ⌝ }
-    ensures { λ r. ⌜ (r ≡ true → (j : ℕ) → j + 5 < length (now (word .entry)) → 49 ≤ top (drop j (now (word .entry)))) ⌝ }
+    requires { ⌜ all is-symbol (now word) ≡ true ⌝ }
+    ensures { λ r. ⌜ r ≡ is-sixless (now (word .entry)) ⌝ }
 {
+    if word.len() < 6 {
+        return true;
+    }
     let end = word.len() - 5;
     let mut ok = true;
     let mut i: usize = 0;
@@ -87,29 +88,27 @@ fn smaller(a: usize, b: usize) -> usize
 
 // How many 1s stand behind a #, counted part by part, since a count of few bits is the fastest.
 fn rises(word: &[u8]) -> usize
-    requires { ⌜ (1 ≤ length (now word)) × (length (now word) ≤ 600000) ⌝ }
+    requires { ⌜ 1 ≤ length (now word) ⌝ }
     ensures { λ r. ⌜ r ≡ rises-in (now (word .entry)) ⌝ }
 {
     let last = word.len() - 1;
     let mut n: usize = 0;
     let mut i: usize = 0;
     while i < last {
-        let end = smaller(last, i + 128);
+        let end = i + smaller(last - i, 128);
         n += rises_of(&word[i..end + 1]) as usize;
         i = end;
     }
     n
 }
 
-// The number of instructions of a word that plainly passes, and else 0. Words of less than six bytes are left to the others.
-pub fn plain_count(word: &[u8]) -> usize
-    ensures { λ r. ⌜ (0 < r → Read.Done r ≡ read-answer (read-word (now (word .entry)))) ⌝ }
+// The number of instructions of a word that rules 12 and 13 let pass, and else 0. Of such words one that starts with a 1, ends in a # and
+// has no six # together has an instruction more than it has 1s behind a #.
+pub fn count(word: &[u8]) -> usize
+    ensures { λ r. ⌜ r ≡ instruction-count (now (word .entry)) ⌝ }
 {
     let size = word.len();
-    if size < 6 {
-        return 0;
-    }
-    if Instruction::SYMBOLS < size {
+    if size == 0 {
         return 0;
     }
     if word[0] != b'1' {
@@ -124,10 +123,5 @@ pub fn plain_count(word: &[u8]) -> usize
     if !few_hashes(word) {
         return 0;
     }
-    let count = rises(word) + 1;
-    if count <= Instruction::INSTRUCTIONS {
-        count
-    } else {
-        0
-    }
+    rises(word) + 1
 }

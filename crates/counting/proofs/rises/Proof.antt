@@ -6,10 +6,10 @@ use native.Mathlib.Omega.{arith}
 use borrow.Author.Needs.{needs}
 use lib.ListN.{length, take, drop, length-drop}
 use lib.Seq.{drop-drop}
-use Rattle.word.specs.Plain.{rises}
-use Rattle.word.proofs.Plain.{rises-part, rises-end, rises-length}
-use Rattle.word.proofs.passing.rises.Statement.{statement}
-use Rattle.word.proofs.passing.rises.Tie as tie
+use Rattle.counting.specs.Counts.{rises}
+use Rattle.counting.proofs.Rising.{rises-part, rises-end, rises-below}
+use Rattle.counting.proofs.rises.Statement.{statement}
+use Rattle.counting.proofs.rises.Tie as tie
 
 module _ (w : List ℕ) (i end n r : ℕ) (h : i ≤ end) (g : end < length w) (counted : r ≡ rises (take (end + 1 - i) (drop i w)))
     (before : n + rises (drop i w) ≡ rises w) where
@@ -24,7 +24,7 @@ module _ (w : List ℕ) (i end n r : ℕ) (h : i ≤ end) (g : end < length w) (
       omega (arith, before, rw size at counted, rw rest at part)
 
   few : n + r ≤ length w
-  few = omega (arith, more, rises-length w)
+  few = omega (arith, more, rises-below w (omega arith))
 
 abbrev Inv-loop : tie.InvT-loop
 Inv-loop word last n₀ i₀ n i = (i ≤ last) × (n + rises (drop i word) ≡ rises word)
@@ -38,11 +38,14 @@ sub-last c = search needs
 loop-holds : tie.Need-loop-holds Inv-loop μ-loop
 loop-holds c = (search needs, omega arith)
 
-add-smaller : tie.Need-add-smaller Inv-loop μ-loop
-add-smaller c = search needs
+sub-smaller : tie.Need-sub-smaller Inv-loop μ-loop
+sub-smaller c = search needs
 
 smaller-requires : tie.Need-smaller-requires Inv-loop μ-loop
 smaller-requires c κs = search needs
+
+add-end : tie.Need-add-end Inv-loop μ-loop
+add-end c = omega (arith, c .smaller .ensures)
 
 add-rises-of : tie.Need-add-rises-of Inv-loop μ-loop
 add-rises-of c = omega (arith, c .smaller .ensures)
@@ -70,7 +73,7 @@ add-n c =
     record {
       fits = omega (
         arith,
-        few (a .word .now) (l .i) (e .smaller .result) (l .n) (c .rises-of .result) (omega (arith, e .smaller .ensures))
+        few (a .word .now) (l .i) (l .i + e .smaller .result) (l .n) (c .rises-of .result) (omega (arith, e .smaller .ensures))
             (omega (arith, e .smaller .ensures)) (c .rises-of .ensures) (l .inv .1),
       );
     }
@@ -84,7 +87,7 @@ loop-again c =
     let l = e .before .before .loop in
     let a = e .before .before .before .before .args in (
       omega arith,
-      more (a .word .now) (l .i) (e .smaller .result) (l .n) (c .rises-of .result) (omega (arith, e .smaller .ensures))
+      more (a .word .now) (l .i) (l .i + e .smaller .result) (l .n) (c .rises-of .result) (omega (arith, e .smaller .ensures))
           (omega (arith, e .smaller .ensures)) (c .rises-of .ensures) (l .inv .1),
     )
 
@@ -101,8 +104,9 @@ rises-spec =
     μ-loop
     sub-last
     loop-holds
-    add-smaller
+    sub-smaller
     smaller-requires
+    add-end
     add-rises-of
     sub-rises-of
     part-rises-of-start

@@ -1,6 +1,7 @@
 -- The first of a list that fails a test stands behind those at the front that pass it.
 use mathlib.Core.Path.{_≡_, refl, ap, _∙_}
 use mathlib.Core.Bool.{Bool, true, false}
+use mathlib.Core.Logic.{⊎-elim}
 use mathlib.Core.Option.{none, some}
 use mathlib.Core.List.{List, [], _∷_}
 use Prim.Native.Nat.{ℕ, suc, _+_, _<_}
@@ -8,7 +9,8 @@ use native.Mathlib.Omega.{arith}
 use lib.ListN.{length}
 use Rattle.theory.specs.TurnedDown.{first-failing}
 use Rattle.text.specs.Runs.{leading}
-use Rattle.text.proofs.Runs.{leading-pass, leading-fail}
+use Rattle.text.proofs.Runs.{leading-pass, leading-fail, leading-length}
+use Rattle.counting.proofs.Flags.{lt-or-le}
 
 module _ (f : ℕ → Bool) where
   pub failing-some : (n : ℕ) (l : List ℕ) → leading f l < length l → first-failing f n l ≡ some (n + leading f l)
@@ -31,3 +33,13 @@ module _ (f : ℕ → Bool) where
       go : (t : Bool) → f b ≡ t → (leading f l ≡ length l → first-failing f (suc n) l ≡ none) → first-failing f n (b ∷ l) ≡ none
       go true e rest = rw e (rest (omega (arith, leading-pass f b l e)))
       go false e rest = absurd (omega (arith, leading-fail f b l e))
+
+  pub none-failing : (n : ℕ) (l : List ℕ) → first-failing f n l ≡ none → leading f l ≡ length l
+  none-failing n l e =
+      ⊎-elim (λ h. absurd (never h)) (λ h. omega (arith, leading-length f l)) (lt-or-le (leading f l) (length l))
+    where
+      never : leading f l < length l → ⊥
+      never h =
+          let found : first-failing f n l ≡ some (n + leading f l) = failing-some n l h in
+          let x : _≡_ {A = ℕ} 0 1 = cc in
+          omega arith
