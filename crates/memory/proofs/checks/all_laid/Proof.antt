@@ -9,8 +9,8 @@ use Rattle.theory.specs.Machines.{is-laid}
 use Rattle.memory.specs.Held.{places-laid}
 use Rattle.memory.proofs.Places.{place-ends, places-none, places-fail, places-more, place-laid}
 use borrow.Author.Needs.{needs}
-use Rattle.memory.proofs.layout.all_laid.Statement.{statement}
-use Rattle.memory.proofs.layout.all_laid.Tie as tie
+use Rattle.memory.proofs.checks.all_laid.Statement.{statement}
+use Rattle.memory.proofs.checks.all_laid.Tie as tie
 
 abbrev Inv-loop : tie.InvT-loop
 Inv-loop store lengths capacity i₀ i = (i ≤ length lengths) × (places-laid i capacity store lengths ≡ true)
@@ -46,29 +46,29 @@ shared-slice-read-wide c = search needs
 wide-requires : tie.Need-wide-requires Inv-loop μ-loop
 wide-requires c κs = search needs
 
-sub-laid : tie.Need-sub-laid Inv-loop μ-loop
-sub-laid c = search needs
+sub-is-laid : tie.Need-sub-is-laid Inv-loop μ-loop
+sub-is-laid c = search needs
 
-part-laid-start : tie.Need-part-laid-start Inv-loop μ-loop
-part-laid-start c = search needs
+part-is-laid-start : tie.Need-part-is-laid-start Inv-loop μ-loop
+part-is-laid-start c = search needs
 
-part-laid-end : tie.Need-part-laid-end Inv-loop μ-loop
-part-laid-end c = ends (c .before .before .before) (search needs)
+part-is-laid-end : tie.Need-part-is-laid-end Inv-loop μ-loop
+part-is-laid-end c = ends (c .before .before .before) (search needs)
 
-laid-requires : tie.Need-laid-requires Inv-loop μ-loop
-laid-requires c κs = search needs
+is-laid-requires : tie.Need-is-laid-requires Inv-loop μ-loop
+is-laid-requires c κs = search needs
 
 -- what the test of the part says of register i
-tested : (c : tie.After-laid Inv-loop μ-loop)
+tested : (c : tie.After-is-laid Inv-loop μ-loop)
     → let a = c .before .before .before .before .before .before .before .before .args in
     let i = c .before .before .before .before .before .loop .i in
-    c .laid .result ≡ is-laid (a .capacity) (getD (a .lengths .now) i 0) (take (a .capacity) (drop (i * a .capacity) (a .store .now)))
+    c .is-laid .result ≡ is-laid (a .capacity) (getD (a .lengths .now) i 0) (take (a .capacity) (drop (i * a .capacity) (a .store .now)))
 tested c =
     let a = c .before .before .before .before .before .before .before .before .args in
     let i = c .before .before .before .before .before .loop .i in
     place-laid i (a .capacity) (getD (a .lengths .now) i 0) (a .store .now) (ends (c .before .before .before .before .before)
     (search needs))
-    (rw (← c .before .before .wide .ensures) (c .laid .ensures))
+    (rw (← c .before .before .wide .ensures) (c .is-laid .ensures))
 
 returns : tie.Need-returns Inv-loop μ-loop
 returns c =
@@ -110,10 +110,10 @@ all-laid-spec =
     mul-wide
     shared-slice-read-wide
     wide-requires
-    sub-laid
-    part-laid-start
-    part-laid-end
-    laid-requires
+    sub-is-laid
+    part-is-laid-start
+    part-is-laid-end
+    is-laid-requires
     returns
     add-i
     loop-less

@@ -6,12 +6,12 @@ use Prim.Native.Nat.{_≤_, _-_}
 use lib.ListN.{length, drop}
 use Rattle.theory.specs.Basics.{all}
 use Rattle.theory.proofs.Words.{one-is-symbol, hash-is-symbol}
-use Rattle.memory.proofs.Lists.{all-next, all-fails, all-passed}
+use Rattle.layout.proofs.Lists.{all-next, all-fails, all-passed}
 use Rattle.theory.specs.Word.{is-symbol}
 use borrow.Author.Tests.{ne-eqb}
 use borrow.Author.Needs.{needs}
-use Rattle.memory.proofs.layout.symbols.Statement.{statement}
-use Rattle.memory.proofs.layout.symbols.Tie as tie
+use Rattle.layout.proofs.symbols.Statement.{statement}
+use Rattle.layout.proofs.symbols.Tie as tie
 
 abbrev Inv-loop : tie.InvT-loop
 Inv-loop part ok₀ i₀ ok i = (i ≤ length part) × (all is-symbol part ≡ (ok && all is-symbol (drop i part)))

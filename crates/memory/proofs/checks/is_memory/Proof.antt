@@ -6,8 +6,8 @@ use Rattle.memory.specs.Calls.{memory}
 use Rattle.memory.proofs.Rule10.{are-sized, by-places, not-memory}
 use borrow.Author.Needs.{needs}
 use borrow.Author.Tests.{not-true, not-false}
-use Rattle.memory.proofs.layout.is_memory.Statement.{statement}
-use Rattle.memory.proofs.layout.is_memory.Tie as tie
+use Rattle.memory.proofs.checks.is_memory.Statement.{statement}
+use Rattle.memory.proofs.checks.is_memory.Tie as tie
 
 is-sized-requires : tie.Need-is-sized-requires
 is-sized-requires c κs = search needs

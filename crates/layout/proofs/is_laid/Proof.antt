@@ -1,11 +1,11 @@
--- `laid` meets its contract: the length, the symbols, and then the zeros decide.
+-- `is_laid` meets its contract: the length, the symbols, and then the zeros decide.
 use borrow.Author.Tests.{not-true, not-false}
 use mathlib.Core.Path.{sym, _∙_}
 use lib.Seq.{length-take-le}
-use Rattle.memory.proofs.Lists.{laid-short, laid-other, laid-rest}
+use Rattle.layout.proofs.Lists.{laid-short, laid-other, laid-rest}
 use borrow.Author.Needs.{needs}
-use Rattle.memory.proofs.layout.laid.Statement.{statement}
-use Rattle.memory.proofs.layout.laid.Tie as tie
+use Rattle.layout.proofs.is_laid.Statement.{statement}
+use Rattle.layout.proofs.is_laid.Tie as tie
 
 returns : tie.Need-returns
 returns c = sym (laid-short (c .before .before .args .part .now) (c .before .before .args .n) (c .if1 .taken))
@@ -41,8 +41,8 @@ returns-3 c =
     c .zeros .ensures ∙ sym (laid-rest (a .part .now) (a .n) (search needs) (sym (c .before .before .before .symbols .ensures)
     ∙ not-false _ (c .before .before .if2 .left)))
 
-pub laid-spec : {M : Type 1} → statement M
-laid-spec =
+pub is-laid-spec : {M : Type 1} → statement M
+is-laid-spec =
     tie.close
     (tie.spec
     returns

@@ -5,12 +5,12 @@ use mathlib.Core.Logic.{⊎-elim}
 use Prim.Native.Nat.{_≤_, _-_}
 use lib.ListN.{length, drop}
 use Rattle.theory.specs.Basics.{all}
-use Rattle.memory.proofs.Lists.{all-next, all-fails, all-passed}
+use Rattle.layout.proofs.Lists.{all-next, all-fails, all-passed}
 use lib.Dec.{eqb}
 use borrow.Author.Tests.{eq-eqb, ne-eqb}
 use borrow.Author.Needs.{needs}
-use Rattle.memory.proofs.layout.zeros.Statement.{statement}
-use Rattle.memory.proofs.layout.zeros.Tie as tie
+use Rattle.layout.proofs.zeros.Statement.{statement}
+use Rattle.layout.proofs.zeros.Tie as tie
 
 abbrev Inv-loop : tie.InvT-loop
 Inv-loop part ok₀ i₀ ok i = (i ≤ length part) × (all (eqb 0) part ≡ (ok && all (eqb 0) (drop i part)))

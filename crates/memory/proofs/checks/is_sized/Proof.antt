@@ -6,8 +6,8 @@ use Rattle.theory.specs.Machines.{Memory}
 use Rattle.memory.specs.Calls.{memory}
 use Rattle.memory.proofs.Rule10.{no-registers, many-registers, no-capacity, much-capacity, other-store, by-lengths}
 use borrow.Author.Needs.{needs}
-use Rattle.memory.proofs.layout.is_sized.Statement.{statement}
-use Rattle.memory.proofs.layout.is_sized.Tie as tie
+use Rattle.memory.proofs.checks.is_sized.Statement.{statement}
+use Rattle.memory.proofs.checks.is_sized.Tie as tie
 
 returns : tie.Need-returns
 returns c =
