@@ -9,7 +9,7 @@ ghost use Rattle.memory.specs.Held.{Sized, Held};
 ghost use Rattle.memory.specs.Calls.{memory};
 ghost use Rattle.memory.specs.Fresh.{fresh-registers, can-hold};
 use crate::answers::Machine;
-use crate::layout::is_sized;
+use crate::checks::is_sized;
 use output::put_runs;
 
 fn wide(x: u32) -> usize

@@ -1,7 +1,7 @@
 // The memory of a machine of document 01, "Machines of the set": what a call is lent, rule 10, the value, and what a run hands back.
 mod answers;
+mod checks;
 mod fresh;
-mod layout;
 
 pub use answers::Ended;
 pub use answers::Laid;
@@ -9,9 +9,9 @@ pub use answers::Machine;
 pub use answers::Position;
 pub use answers::Run;
 pub use answers::Value;
-pub use layout::is_memory;
+pub use checks::is_memory;
 ghost use Rattle.memory.specs.Calls.{memory, Valued};
-use crate::layout::wide;
+use crate::checks::wide;
 use theory::Refusal;
 
 // Register 1, the value of a halted word: rule 10.

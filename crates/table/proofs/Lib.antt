@@ -1,3 +1,4 @@
+pub mod Flags
 pub mod Counts
 pub mod Passing
 pub mod Spelling

@@ -17,7 +17,8 @@ use Rattle.theory.specs.TurnedDown.{word-entries, entry-fault, entry-size, firs
 use Rattle.theory.proofs.Words.{entry, total-append}
 use Rattle.word.specs.declared.answers.Read.the-variants.{Done, Refused}
 use Rattle.word.specs.Scan.{kind-number, widest, item, item-at, ones-at, hashes-at, fault-place, scan-answer}
-use Rattle.word.proofs.Items.{Known, entries-at, ones-within, next-within}
+use Rattle.counting.proofs.Symbols.{Known}
+use Rattle.word.proofs.Items.{entries-at, ones-within, next-within}
 
 -- The entries before the place `at` are `count`, and have no fault of rule 13
 pub record Along (w : List ℕ) (at count : ℕ) : Type 0 where

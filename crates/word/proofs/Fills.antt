@@ -1,10 +1,9 @@
 -- A lent list that is filled from a table, entry by entry, as a reader of a word that no rule turns down goes along.
 use mathlib.Core.Path.{_≡_, sym, ap₂, _∙_}
-use mathlib.Core.Logic.{_⊎_, inl, inr, ⊎-elim}
+use mathlib.Core.Logic.{⊎-elim}
 use mathlib.Core.Option.{none}
 use mathlib.Core.List.{List, _∷_, map}
-use Prim.Native.Nat.{ℕ, suc, _+_, _-_, _≤_, _<_}
-use native.Mathlib.Nat.{eq-zero-or-pos}
+use Prim.Native.Nat.{ℕ, suc, _+_, _≤_, _<_}
 use native.Mathlib.Numerals.{add-one}
 use native.Mathlib.Omega.{arith}
 use lib.ListN.{length, drop, getD, set, length-map, List·getD-map}
@@ -15,18 +14,15 @@ use Rattle.theory.specs.TurnedDown.{entries-fault}
 use Rattle.theory.specs.TurnedDown.{next-byte}
 use Rattle.theory.specs.Limits
 use Rattle.theory.specs.Word.{Entry, is-symbol}
-use Rattle.theory.specs.TurnedDown.{word-entries, word-fault, rule-11, rule-12, rule-13, entry-fault, first-failing, first-along}
+use Rattle.theory.specs.TurnedDown.{word-entries, word-fault, rule-11, rule-12, rule-13, entry-fault, first-along}
 use Rattle.theory.specs.TurnedDown.{done, lent-after}
 use Rattle.theory.proofs.Faults.{none-first, none-second, unless-none, none-refused, and-second}
 use Rattle.theory.proofs.Words.{entry, Formed, formed-of-word}
+pub use Rattle.counting.proofs.Flags.{lt-or-le}
+use Rattle.counting.proofs.Runs.{none-failing}
 use Rattle.word.specs.Scan.{Readable, symbols, item-at, ones-at, hashes-at}
-use Rattle.text.proofs.Runs.{leading-length}
-use Rattle.word.proofs.Runs.{failing-some}
 use Rattle.word.proofs.Items.{ones-within}
 use Rattle.word.proofs.Along.{Along, along-end, entry-here, item-next, kind-of-some}
-
-pub lt-or-le : (a b : ℕ) → (a < b) ⊎ (b ≤ a)
-lt-or-le a b = ⊎-elim (λ e. inr (omega arith)) (λ l. inl (omega arith)) (eq-zero-or-pos (b - a))
 
 -- A list of which the first i elements come from another
 
@@ -72,14 +68,7 @@ module _ (w : List ℕ) (fine : word-fault w ≡ none) where
 
   known : symbols w ≡ length w
   unfolding rule-12
-  known = ⊎-elim (λ l. absurd (never l)) (λ l. omega (arith, leading-length is-symbol w)) (lt-or-le (symbols w) (length w))
-    where
-      never : symbols w < length w → ⊥
-      never l =
-          let no : first-failing is-symbol 0 w ≡ none = none-refused _ 12 passed-12 in
-          let yes : _ = failing-some is-symbol 0 w l in
-          let x : _≡_ {A = ℕ} 0 1 = cc in
-          omega arith
+  known = none-failing is-symbol 0 w (none-refused _ 12 passed-12)
 
   pub readable : Readable w
   unfolding word-fault rule-11

@@ -8,12 +8,13 @@ use lib.ListN.{length, drop, length-drop}
 use lib.Seq.{drop-drop}
 use lib.Dec.{eqb}
 use borrow.Author.Tests.{ne-eqb, eqb-true}
-use Rattle.theory.specs.Word.{Symbol, one, hash, symbol-of, is-symbol, Entry, entries, one-before, hash-before}
+use Rattle.theory.specs.Word.{Symbol, one, hash, symbol-of, Entry, entries, one-before, hash-before}
 use Rattle.theory.specs.TurnedDown.{word-entries}
 use Rattle.theory.proofs.Words.{entry, entries-first}
 use Rattle.text.specs.Runs.{is-byte, run}
-use Rattle.word.specs.Scan.{symbols, ones-at, hashes-at}
 use Rattle.text.proofs.Runs.{leading-pass, leading-fail, leading-nil, leading-within}
+use Rattle.counting.proofs.Symbols.{Known, known-head, known-tail, known-drop}
+use Rattle.word.specs.Scan.{ones-at, hashes-at}
 
 -- Of symbols
 
@@ -39,25 +40,6 @@ first-entry hash (one ∷ s) = entries-first 0 1 (one ∷ s) (omega arith) tt
 first-entry hash (hash ∷ s) = ap {B = List Entry} hash-before (first-entry hash s)
 
 -- Of bytes
-
--- Every byte is 1 or #
-abbrev pub Known : List ℕ → Type 0
-Known w = symbols w ≡ length w
-
-pub known-head : (b : ℕ) (w : List ℕ) → Known (b ∷ w) → is-symbol b ≡ true
-known-head b w h = go (is-symbol b) refl
-  where
-    go : (t : Bool) → is-symbol b ≡ t → is-symbol b ≡ true
-    go true e = e
-    go false e = absurd (omega (arith, leading-fail is-symbol b w e))
-
-pub known-tail : (b : ℕ) (w : List ℕ) → Known (b ∷ w) → Known w
-known-tail b w h = omega (arith, leading-pass is-symbol b w (known-head b w h))
-
-pub known-drop : (i : ℕ) (w : List ℕ) → Known w → Known (drop i w)
-known-drop zero w h = h
-known-drop (suc i) [] h = h
-known-drop (suc i) (b ∷ w) h = known-drop i w (known-tail b w h)
 
 ones-run : (w : List ℕ) → ones (map symbol-of w) ≡ run 49 w
 unfolding ones

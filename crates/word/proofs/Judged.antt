@@ -3,21 +3,29 @@
 use mathlib.Core.Path.{_≡_, refl, ap}
 use mathlib.Core.Bool.{true}
 use mathlib.Core.Option.{Option, none, some}
-use mathlib.Core.List.{List}
+use mathlib.Core.List.{List, [], _∷_}
 use Prim.Native.Nat.{ℕ, _+_, _≤_, _<_}
 use native.Mathlib.Omega.{arith}
 use lib.ListN.{length}
+use lib.Dec.{leb}
 use borrow.Author.Tests.{le-leb, lt-leb}
 use Rattle.theory.specs.Limits
-use Rattle.theory.specs.Word.{is-symbol}
+use Rattle.theory.specs.Word.{is-symbol, entries}
 use Rattle.theory.specs.Machines.{is-limited}
-use Rattle.theory.specs.TurnedDown.{lent-after, read-word, word-entries, word-fault, rule-11, rule-12, rule-19, read-word-into}
+use Rattle.theory.specs.TurnedDown.{lent-after, read-word, word-entries, word-fault, next-byte, entry-fault, read-word-into}
+use Rattle.theory.specs.TurnedDown.{rule-11, rule-12, rule-13, rule-14, rule-19}
 use Rattle.theory.specs.declared.Refusal.{Refusal}
+use Rattle.counting.specs.Counts.{instruction-count}
+use Rattle.counting.proofs.Runs.{failing-some, failing-none}
+use Rattle.counting.proofs.Symbols.{Known}
 use Rattle.word.specs.declared.answers.Read.the-variants.{Done, Refused}
 use Rattle.word.specs.Answers.{read-answer, Reads}
 use Rattle.word.specs.Scan.{symbols, scan-answer, Filled}
-use Rattle.word.proofs.Runs.{failing-some, failing-none}
-use Rattle.word.proofs.Items.{Known}
+
+some-bytes : (w : List ℕ) → 0 < length (word-entries w) → 1 ≤ length w
+unfolding entries
+some-bytes [] h = h
+some-bytes (b ∷ w) h = omega arith
 
 module _ (w : List ℕ) where
   abbrev Sized : Type 0
@@ -41,6 +49,22 @@ module _ (w : List ℕ) where
   pub known-symbols : Sized → Known w → scan-answer w ≡ read-answer (read-word w)
   unfolding read-word word-fault rule-11 rule-12 scan-answer
   known-symbols s h = rw (sized s, failing-none is-symbol 0 w h)
+
+  -- A word that was counted passes rules 12 and 13
+  pub counted-word : length w ≤ Limits.most-symbols → (n : ℕ) → n ≡ instruction-count w → 0 < n → n ≤ Limits.most-instructions
+      → Done n ≡ read-answer (read-word w)
+  unfolding instruction-count read-word word-fault rule-11 rule-14
+  counted-word short n e some-left few = go (rule-12 w) refl (rule-13 next-byte entry-fault (word-entries w)) refl
+    where
+      go : (x : Option Refusal) → rule-12 w ≡ x → (y : Option Refusal) → rule-13 next-byte entry-fault (word-entries w) ≡ y
+          → Done n ≡ read-answer (read-word w)
+      go (some r) d y f = absurd (let z : n ≡ 0 = rw d at e in omega arith)
+      go none d (some r) f = absurd (let z : n ≡ 0 = rw (d, f) at e in omega arith)
+      go none d none f =
+          let z : n ≡ length (word-entries w) = rw (d, f) at e in
+          let limited : leb (length (word-entries w)) Limits.most-instructions ≡ true =
+          le-leb (length (word-entries w)) Limits.most-instructions (omega arith) in
+          rw (sized (some-bytes w (omega arith), short), d, f, limited) (ap Done z)
 
   -- What a reader that measured a word hands back, and the lent lists then
 

@@ -1,6 +1,5 @@
 // Words: what an instruction is, and a word read into a lent table of two slices of numbers, kinds and operands.
 mod answers;
-mod passing;
 mod reading;
 
 pub use answers::Instruction;

@@ -1,6 +1,8 @@
 // Reading a word: rules 11 to 14 in order, with byte offsets as places, and then 19. Nothing is written before the count is known.
 ghost use mathlib.Core.Path.{_≡_};
 ghost use Prim.Native.Nat.{_+_, _≤_, min};
+ghost use lib.ListN.{length};
+ghost use Rattle.theory.specs.Limits.{most-symbols};
 ghost use Rattle.theory.specs.TurnedDown.{read-word};
 ghost use Rattle.word.specs.Answers.{read-answer, Reads};
 ghost use Rattle.word.specs.Scan.{symbols, kind-number, widest, item-at, fault-place};
@@ -9,7 +11,7 @@ use crate::answers::Instruction;
 use crate::answers::Item;
 use crate::answers::Read;
 use crate::answers::refused;
-use crate::passing::plain_count;
+use counting::count;
 use text::run_end;
 
 // The largest number of 32 bits.
@@ -66,7 +68,7 @@ pub fn item_at(word: &[u8], at: usize) -> Item
 // Where an item that starts at `at` and is no instruction has its fault: at its start where it has no 1, at its end where it has no #,
 // and else at its sixth #.
 fn fault_place(at: usize, e: Item) -> usize
-    requires { ⌜ at + e .operand ≤ 600000 ⌝ }
+    requires { ⌜ at + e .operand ≤ most-symbols ⌝ }
     ensures { λ r. ⌜ r ≡ fault-place at e ⌝ }
 {
     let operand = e.operand as usize;
@@ -109,14 +111,12 @@ fn scan(word: &[u8]) -> Read
     }
 }
 
-// Rules 11 to 14, one after the other.
+// Rules 11 to 14, one after the other, of a word that is not too long.
 fn examine(word: &[u8]) -> Read
+    requires { ⌜ length (now word) ≤ most-symbols ⌝ }
     ensures { λ r. ⌜ r ≡ read-answer (read-word (now (word .entry))) ⌝ }
 {
     if word.len() == 0 {
-        return refused(11, 0);
-    }
-    if Instruction::SYMBOLS < word.len() {
         return refused(11, 0);
     }
     let end = symbols_end(word);
@@ -126,13 +126,16 @@ fn examine(word: &[u8]) -> Read
     scan(word)
 }
 
-// Rules 11 to 14. Where a word does not plainly pass, the rule and the place are found.
+// Rules 11 to 14. Where a word is not one of instructions alone, or of too many, the rule and the place are found.
 pub fn measure(word: &[u8]) -> Read
     ensures { λ r. ⌜ r ≡ read-answer (read-word (now (word .entry))) ⌝ }
 {
-    let count = plain_count(word);
-    if 0 < count {
-        return Read::Done(count);
+    if Instruction::SYMBOLS < word.len() {
+        return refused(11, 0);
+    }
+    let n = count(word);
+    if 0 < n && n <= Instruction::INSTRUCTIONS {
+        return Read::Done(n);
     }
     examine(word)
 }

@@ -8,7 +8,7 @@ use borrow.Author.Tests.{not-false}
 use borrow.Author.Needs.{needs}
 use lib.ListN.{length, getD}
 use Rattle.table.specs.Tables.{IsKind}
-use Rattle.word.proofs.Flags.{never, each-more}
+use Rattle.table.proofs.Flags.{never, each-more}
 use Rattle.table.proofs.Passing.{kind-limits}
 use Rattle.table.proofs.checking.all_kinds.Statement.{statement}
 use Rattle.table.proofs.checking.all_kinds.Tie as tie

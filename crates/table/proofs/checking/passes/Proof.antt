@@ -6,7 +6,7 @@ use Rattle.word.specs.Answers.{zipped}
 use Rattle.word.proofs.Zipped.{zipped-length}
 use Rattle.table.proofs.Counts.{accepted}
 use Rattle.table.proofs.Passing.{numbers-good}
-use Rattle.word.proofs.Flags.{never}
+use Rattle.table.proofs.Flags.{never}
 use borrow.Author.Tests.{leb-true, not-false}
 use borrow.Author.Needs.{needs}
 use Rattle.table.proofs.checking.passes.Statement.{statement}

@@ -9,7 +9,7 @@ use borrow.Author.Needs.{needs}
 use lib.ListN.{length, take, getD}
 use lib.Seq.{take-all}
 use Rattle.table.specs.Tables.{sum}
-use Rattle.word.proofs.Flags.{never, each-more}
+use Rattle.table.proofs.Flags.{never, each-more}
 use Rattle.table.proofs.Passing.{sum-more}
 use Rattle.table.proofs.checking.sum_of.Statement.{statement}
 use Rattle.table.proofs.checking.sum_of.Tie as tie

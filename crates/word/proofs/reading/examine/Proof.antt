@@ -8,8 +8,8 @@ use Rattle.theory.specs.Word.{is-symbol}
 use Rattle.word.specs.declared.answers.Read.the-variants.{Refused}
 use Rattle.word.specs.Scan.{symbols}
 use Rattle.text.proofs.Runs.{leading-length}
-use Rattle.word.proofs.Items.{Known}
-use Rattle.word.proofs.Judged.{empty-word, long-word, unknown-symbol, known-symbols}
+use Rattle.counting.proofs.Symbols.{Known}
+use Rattle.word.proofs.Judged.{empty-word, unknown-symbol, known-symbols}
 use borrow.Author.Needs.{needs}
 use Rattle.word.proofs.reading.examine.Statement.{statement}
 use Rattle.word.proofs.reading.examine.Tie as tie
@@ -23,47 +23,32 @@ refused-requires c κs = search needs
 returns : tie.Need-returns
 returns c = c .refused .ensures ∙ empty-word (c .before .before .before .args .word .now) (c .before .if1 .taken)
 
+symbols-end-requires : tie.Need-symbols-end-requires
+symbols-end-requires c κs = search needs
+
 refused-requires-2 : tie.Need-refused-requires-2
 refused-requires-2 c κs = search needs
 
 returns-2 : tie.Need-returns-2
-returns-2 c = c .refused2 .ensures ∙ long-word (c .before .before .before .before .args .word .now) (c .before .if2 .taken)
-
-symbols-end-requires : tie.Need-symbols-end-requires
-symbols-end-requires c κs = search needs
-
-refused-requires-3 : tie.Need-refused-requires-3
-refused-requires-3 c κs = search needs
-
-returns-3 : tie.Need-returns-3
-returns-3 c =
-    let w : List ℕ = c .before .before .before .before .before .before .args .word .now in
+returns-2 c =
+    let w : List ℕ = c .before .before .before .before .before .args .word .now in
     let e : c .before .before .symbols-end .result ≡ symbols w = c .before .before .symbols-end .ensures in
-    c .refused3 .ensures
+    c .refused2 .ensures
     ∙ ap (λ (n : ℕ). Refused (record { number = 12; place = n })) e
-    ∙ unknown-symbol w (omega arith, omega arith) (rw e at (c .before .if3 .taken))
+    ∙ unknown-symbol w (omega arith, omega arith) (rw e at (c .before .if2 .taken))
 
 scan-requires : tie.Need-scan-requires
 scan-requires c κs =
-    let w : List ℕ = c .before .before .before .before .before .args .word .now in
-    record { known = all-known w _ (c .before .symbols-end .ensures) (c .if3 .left); short = omega arith }
+    let w : List ℕ = c .before .before .before .before .args .word .now in
+    record { known = all-known w _ (c .before .symbols-end .ensures) (c .if2 .left); short = omega arith }
 
-returns-4 : tie.Need-returns-4
-returns-4 c =
-    let w : List ℕ = c .before .before .before .before .before .before .args .word .now in
+returns-3 : tie.Need-returns-3
+returns-3 c =
+    let w : List ℕ = c .before .before .before .before .before .args .word .now in
     c .scan .ensures ∙ known-symbols w (omega arith, omega arith) (all-known w _ (c .before .before .symbols-end .ensures) (c .before
-    .if3 .left))
+    .if2 .left))
 
 pub examine-spec : {M : Type 1} → statement M
 examine-spec =
     tie.close
-    (tie.spec
-    refused-requires
-    returns
-    refused-requires-2
-    returns-2
-    symbols-end-requires
-    refused-requires-3
-    returns-3
-    scan-requires
-    returns-4)
+    (tie.spec refused-requires returns symbols-end-requires refused-requires-2 returns-2 scan-requires returns-3)

@@ -1,0 +1,60 @@
+-- Words of 1s and #s alone. A loop tests byte by byte how far it is from the middle between the two.
+use mathlib.Core.Path.{_≡_, refl}
+use mathlib.Core.Bool.{Bool, true, false, _&&_}
+use mathlib.Core.Logic.{⊎-elim}
+use mathlib.Core.List.{List, [], _∷_}
+use Prim.Native.Nat.{ℕ, zero, suc, _+_, _-_, _<_}
+use native.Mathlib.Numerals.{add-one}
+use native.Mathlib.Omega.{arith}
+use lib.ListN.{length, drop, getD}
+use lib.Seq.{drop-cons}
+use borrow.Author.Tests.{ne-eqb}
+use Rattle.theory.specs.Basics.{all}
+use Rattle.theory.specs.Word.{is-symbol}
+use Rattle.theory.proofs.Faults.{and-first, and-second}
+use Rattle.text.specs.Runs.{leading}
+use Rattle.text.proofs.Runs.{leading-pass, leading-fail, leading-nil}
+use Rattle.counting.proofs.Flags.{lt-or-le}
+
+-- Every byte is 1 or #
+abbrev pub Known : List ℕ → Type 0
+Known w = leading is-symbol w ≡ length w
+
+pub known-head : (b : ℕ) (w : List ℕ) → Known (b ∷ w) → is-symbol b ≡ true
+known-head b w h = go (is-symbol b) refl
+  where
+    go : (t : Bool) → is-symbol b ≡ t → is-symbol b ≡ true
+    go true e = e
+    go false e = absurd (omega (arith, leading-fail is-symbol b w e))
+
+pub known-tail : (b : ℕ) (w : List ℕ) → Known (b ∷ w) → Known w
+known-tail b w h = omega (arith, leading-pass is-symbol b w (known-head b w h))
+
+pub known-drop : (i : ℕ) (w : List ℕ) → Known w → Known (drop i w)
+known-drop zero w h = h
+known-drop (suc i) [] h = h
+known-drop (suc i) (b ∷ w) h = known-drop i w (known-tail b w h)
+
+pub symbol-at : (b d : ℕ) → d ≡ (b - 42) + (42 - b) → d ≡ 7 → is-symbol b ≡ true
+symbol-at b d e h =
+    ⊎-elim
+    (λ l. let q : b ≡ 35 = omega arith in rw q)
+    (λ l. let q : b ≡ 49 = omega arith in rw q)
+    (lt-or-le b 42)
+
+pub other-at : (b d : ℕ) → d ≡ (b - 42) + (42 - b) → (d ≡ 7 → ⊥) → is-symbol b ≡ false
+other-at b d e h = rw (ne-eqb b 49 (λ q. h (omega (arith, q))), ne-eqb b 35 (λ q. h (omega (arith, q))))
+
+pub all-at : (w : List ℕ) (i : ℕ) → i < length w
+    → all is-symbol (drop i w) ≡ (is-symbol (getD w i 0) && all is-symbol (drop (i + 1) w))
+all-at w i h = rw (drop-cons w i 0 h, add-one i)
+
+pub known-of-all : (w : List ℕ) → all is-symbol w ≡ true → Known w
+known-of-all [] h = leading-nil is-symbol
+known-of-all (b ∷ w) h =
+    let rest : Known w = known-of-all w (and-second (is-symbol b) (all is-symbol w) h) in
+    omega (arith, leading-pass is-symbol b w (and-first (is-symbol b) (all is-symbol w) h))
+
+pub all-of-known : (w : List ℕ) → Known w → all is-symbol w ≡ true
+all-of-known [] k = refl
+all-of-known (b ∷ w) k = rw (known-head b w k) (all-of-known w (known-tail b w k))

@@ -1,0 +1,56 @@
+-- `is_laid` meets its contract: the length, the symbols, and then the zeros decide.
+use borrow.Author.Tests.{not-true, not-false}
+use mathlib.Core.Path.{sym, _∙_}
+use lib.Seq.{length-take-le}
+use Rattle.layout.proofs.Lists.{laid-short, laid-other, laid-rest}
+use borrow.Author.Needs.{needs}
+use Rattle.layout.proofs.is_laid.Statement.{statement}
+use Rattle.layout.proofs.is_laid.Tie as tie
+
+returns : tie.Need-returns
+returns c = sym (laid-short (c .before .before .args .part .now) (c .before .before .args .n) (c .if1 .taken))
+
+slice-aggregate-symbols : tie.Need-slice-aggregate-symbols
+slice-aggregate-symbols c =
+    let a = c .before .before .before .args in
+    sym (length-take-le (a .n) (a .part .now) (search needs))
+
+symbols-requires : tie.Need-symbols-requires
+symbols-requires c κs = search needs
+
+returns-2 : tie.Need-returns-2
+returns-2 c =
+    let a = c .before .before .before .before .before .args in
+    sym (laid-other (a .part .now) (a .n) (search needs) (sym (c .before .symbols .ensures) ∙ not-true _ (c .if2 .taken)))
+
+sub-zeros : tie.Need-sub-zeros
+sub-zeros c = search needs
+
+part-zeros-start : tie.Need-part-zeros-start
+part-zeros-start c = search needs
+
+part-zeros-end : tie.Need-part-zeros-end
+part-zeros-end c = search needs
+
+zeros-requires : tie.Need-zeros-requires
+zeros-requires c κs = search needs
+
+returns-3 : tie.Need-returns-3
+returns-3 c =
+    let a = c .before .before .before .before .before .before .before .args in
+    c .zeros .ensures ∙ sym (laid-rest (a .part .now) (a .n) (search needs) (sym (c .before .before .before .symbols .ensures)
+    ∙ not-false _ (c .before .before .if2 .left)))
+
+pub is-laid-spec : {M : Type 1} → statement M
+is-laid-spec =
+    tie.close
+    (tie.spec
+    returns
+    slice-aggregate-symbols
+    symbols-requires
+    returns-2
+    sub-zeros
+    part-zeros-start
+    part-zeros-end
+    zeros-requires
+    returns-3)
