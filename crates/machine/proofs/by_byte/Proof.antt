@@ -21,7 +21,7 @@ start-of-requires : tie.Need-start-of-requires
 start-of-requires c κs =
     let s = c .before .before .before .before .before .before in
     let within : c .if2 .entry ≤ length (s .args .kinds .now) = ⊎-elim (λ w. omega (arith, w .1)) (λ w. omega (arith, w .0 .left, w .1)) (c .if2 .came) in
-    (s .pre .same, within, s .pre .few)
+    (s .pre .same, omega (arith, within), s .pre .few)
 
 returns-2 : tie.Need-returns-2
 returns-2 c =
