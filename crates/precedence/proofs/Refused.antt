@@ -6,7 +6,7 @@ use Rattle.theory.specs.Machines.{Memory, is-memory}
 use Rattle.theory.specs.TurnedDown.{refused, rule-10, for-machine}
 use Rattle.theory.specs.declared.Refusal.{Refusal}
 use Rattle.memory.specs.declared.answers.Position.{Position}
-use Rattle.memory.specs.Calls.{Called, called, turned-down, after-10}
+use Rattle.memory.specs.Calls.{called, turned-down, after-10}
 
 pub refused-run : (m : Memory) (p : Position) (budget : ℕ) (r : Refusal)
     → called m p budget (for-machine m (refused r)) ≡ turned-down m p (after-10 m r)

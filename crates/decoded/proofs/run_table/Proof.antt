@@ -1,6 +1,5 @@
 -- `run_table` meets its contract: a walk of its MIR over two calls. The table is lent to `gather`, and the two slices are handed to
--- `run_gathered` for
--- good.
+-- `run_gathered` for good.
 use mathlib.Core.Path.{_≡_, refl, sym, subst}
 use mathlib.Core.List.{List, [], _∷_}
 use Prim.Native.Nat.{ℕ}

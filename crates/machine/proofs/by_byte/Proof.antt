@@ -20,7 +20,8 @@ returns c = rw (ne-eqb _ _ (c .if1 .taken))
 start-of-requires : tie.Need-start-of-requires
 start-of-requires c κs =
     let s = c .before .before .before .before .before .before in
-    let within : c .if2 .entry ≤ length (s .args .kinds .now) = ⊎-elim (λ w. omega (arith, w .1)) (λ w. omega (arith, w .0 .left, w .1)) (c .if2 .came) in
+    let within : c .if2 .entry ≤ length (s .args .kinds .now) =
+    ⊎-elim (λ w. omega (arith, w .1)) (λ w. omega (arith, w .0 .left, w .1)) (c .if2 .came) in
     (s .pre .same, omega (arith, within), s .pre .few)
 
 returns-2 : tie.Need-returns-2
