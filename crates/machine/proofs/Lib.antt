@@ -1,3 +1,2 @@
 pub mod ByByte
 pub mod ReadWord
-pub mod ReadTable

@@ -1,6 +1,5 @@
 -- A word read into two arrays that have room for every word: what comes of it, rule by rule.
 use mathlib.Core.Path.{_≡_, refl, sym, ap, _∙_}
-use mathlib.Core.Bool.{Bool, true, false}
 use mathlib.Core.Option.{Option, none, some}
 use mathlib.Core.List.{List, [], _∷_}
 use Prim.Native.Nat.{ℕ, _≤_}
@@ -9,14 +8,13 @@ use borrow.Author.Tests.{leb-true, le-leb}
 use lib.Dec.{leb}
 use lib.ListN.{length, take, length-map}
 use lib.Seq.{take-at}
-use Rattle.theory.specs.TurnedDown.{entries-fault}
-use Rattle.theory.specs.TurnedDown.{entry-fault, next-byte, for-machine}
 use Rattle.theory.specs.Text.{Bytes}
 use Rattle.theory.specs.Basics.{or-else}
 use Rattle.theory.specs.Word.{Entry, byte-of, bytes-of, spell-entries}
-use Rattle.theory.specs.Machines.{Memory, is-memory}
-use Rattle.theory.specs.TurnedDown.{done, refused, answer, after, total, word-fault, word-entries, read-word, read-word-into}
-use Rattle.theory.specs.TurnedDown.{rule-10, rule-11, rule-12, rule-13, rule-14, rule-19, read-word-for, lent-after}
+use Rattle.theory.specs.Machines.{Memory}
+use Rattle.theory.specs.TurnedDown.{done, answer, after, total, word-fault, word-entries, read-word, read-word-into, entries-fault}
+use Rattle.theory.specs.TurnedDown.{rule-11, rule-12, rule-13, rule-14, rule-19, read-word-for, lent-after}
+use Rattle.theory.specs.TurnedDown.{entry-fault, next-byte, for-machine}
 use Rattle.theory.specs.declared.Refusal.{Refusal}
 use Rattle.theory.proofs.Faults.{and-second, and-first, none-first, none-second, none-refused, unless-none}
 use Rattle.theory.proofs.Words.{GoodTable, formed-of-word, total-length, word-round-trip}
@@ -25,7 +23,8 @@ use Rattle.word.specs.declared.answers.Read.the-variants as R
 use Rattle.word.specs.Answers.{kinds-of, operands-of, zipped, read-answer, Reads}
 use Rattle.word.proofs.Zipped.{zipped-self}
 use Rattle.memory.specs.declared.answers.Position.{Position}
-use Rattle.memory.specs.Calls.{called, handed, refused-at, after-10, word-called}
+use Rattle.memory.specs.Calls.{Called, called, turned-down, after-10, word-called}
+use Rattle.precedence.proofs.Refused.{refused-run}
 use Rattle.machine.specs.ByByte.{word-for}
 
 -- The entries of a word that rules 11 to 14 let pass are a table that rules 11, 13 and 14 let pass
@@ -135,17 +134,15 @@ module _ (w : Bytes) (kinds operands : List ℕ) (k : length kinds ≡ 8192) (o 
 -- The answers of a run of a word
 
 module _ (m : Memory) (p : Position) (budget : ℕ) (w : Bytes) where
-  pub word-refused : (r : Refusal) → word-fault w ≡ some r
-      → word-called m p budget w ≡ handed (refused-at p (after-10 m r)) (m .store) (m .lengths)
-  unfolding word-called rule-10 read-word-for
-  word-refused r f = rw f (go (is-memory m) refl)
-    where
-      go : (b : Bool) → is-memory m ≡ b → called m p budget (for-machine m (refused r)) ≡ handed (refused-at p (after-10 m r)) (m .store)
-          (m .lengths)
-      go true h = rw h
-      go false h = rw h
+  pub word-refused : (r : Refusal) → word-fault w ≡ some r → word-called m p budget w ≡ turned-down m p (after-10 m r)
+  unfolding word-called read-word-for
+  word-refused r f = rw f (refused-run m p budget r)
 
   pub word-read : word-fault w ≡ none
       → word-called m p budget w ≡ called m p budget (for-machine m (word-for (m .count) (word-entries w)))
   unfolding word-called read-word-for word-for
   word-read f = rw f
+
+  pub word-ran : {n : ℕ} {kinds operands : List ℕ} → Got w n kinds operands → {c : Called}
+      → c ≡ called m p budget (for-machine m (word-for (m .count) (zipped (take n kinds) (take n operands)))) → c ≡ word-called m p budget w
+  word-ran got h = h ∙ rw (got .table) (sym (word-read (got .passes)))

@@ -1,43 +1,20 @@
-// The text register machine of document 01, "Machines of the set": runs of a word or of a table of records on a lent store, and one step.
+// The text register machine of document 01, "Machines of the set": runs of a word on a lent store, and one step.
 ghost use mathlib.Core.Path.{_≡_};
 ghost use mathlib.Core.Option.{none};
-ghost use mathlib.Core.List.{List};
 ghost use Prim.Native.Nat.{_≤_};
 ghost use lib.ListN.{length, take};
-ghost use Rattle.theory.specs.Word.{Entry};
 ghost use Rattle.theory.specs.TurnedDown.{total, table-fault, for-machine};
-ghost use Rattle.word.specs.Answers.{zipped, entries-of};
-ghost use Rattle.records.specs.Answers.{gathered};
-ghost use Rattle.memory.specs.Calls.{memory, handed, called, word-called, table-called, refused-at, after-10, moved-to};
+ghost use Rattle.word.specs.Answers.{zipped};
+ghost use Rattle.memory.specs.Calls.{memory, handed, called, word-called, moved-to};
 ghost use Rattle.machine.specs.ByByte.{word-for, by-byte, Paired};
 use memory::Ended;
 use memory::Machine;
 use memory::Position;
 use memory::Run;
-use memory::is_memory;
-use records::Gathered;
+use precedence::turned_down;
 use theory::Refusal;
 use word::Instruction;
 use word::Read;
-
-// A call that a rule after 10 turns down: rule 10 goes before.
-fn turned_down(m: Machine, store: &[u8], lengths: &[u16], at: Position, r: Refusal) -> Run
-    ensures { λ x. ⌜ x ≡ refused-at at (after-10 (memory m (now (store .entry)) (now (lengths .entry))) r) ⌝ }
-{
-    if is_memory(m, store, lengths) {
-        return Run {
-            position: at,
-            ended: Ended::Refused(r),
-        };
-    }
-    Run {
-        position: at,
-        ended: Ended::Refused(Refusal {
-            number: 10,
-            place: 0,
-        }),
-    }
-}
 
 // Where instruction n starts in the word, counted from 0: all symbols of those before it.
 fn start_of(kinds: &[u8], operands: &[u32], n: usize) -> usize
@@ -58,20 +35,17 @@ fn by_byte(r: Refusal, kinds: &[u8], operands: &[u32]) -> Refusal
     requires { ⌜ Paired (now kinds) (now operands) ⌝ }
     ensures { λ x. ⌜ x ≡ by-byte (zipped (now (kinds .entry)) (now (operands .entry))) r ⌝ }
 {
-    let number = r.number;
-    let place = r.place;
-    if number != 15 {
+    if r.number != 15 {
         return r;
     }
-    if kinds.len() < place {
-        return Refusal {
-            number: 15,
-            place: start_of(kinds, operands, kinds.len()),
-        };
-    }
+    let entry = if kinds.len() < r.place {
+        kinds.len()
+    } else {
+        r.place
+    };
     Refusal {
         number: 15,
-        place: start_of(kinds, operands, place),
+        place: start_of(kinds, operands, entry),
     }
 }
 
@@ -95,10 +69,7 @@ fn run_instructions(
     let position = run.position;
     let ended = run.ended;
     match ended {
-        Ended::Ran(end, steps) => Run {
-            position,
-            ended: Ended::Ran(end, steps),
-        },
+        Ended::Ran(_, _) => run,
         Ended::Refused(r) => Run {
             position,
             ended: Ended::Refused(by_byte(r, kinds, operands)),
@@ -132,53 +103,6 @@ pub fn run_word(
         ),
         Read::Refused(r) => turned_down(m, store, lengths, at, r),
     }
-}
-
-// Runs a table that was gathered into numbers: rules 10, then 11, 13, 14 and 15 as for tables.
-fn run_gathered(
-    m: Machine,
-    store: &mut [u8],
-    lengths: &mut [u16],
-    at: Position,
-    g: Gathered,
-    budget: u32,
-) -> Run
-    requires { ⌜ ((t : List Entry) × (g ≡ gathered t)) ⌝ }
-    ensures { λ r. ⌜ ((t : List Entry) → g ≡ gathered t → handed r (now (store .exit)) (now (lengths .exit))
-        ≡ table-called (memory m (now (store .entry)) (now (lengths .entry))) at budget t) ⌝ }
-{
-    let answer = g.answer;
-    match answer {
-        Read::Done(count) => {
-            let kinds = g.kinds;
-            let operands = g.operands;
-            engine::run_numbers(
-                m,
-                store,
-                lengths,
-                at,
-                &kinds[..count],
-                &operands[..count],
-                budget,
-            )
-        }
-        Read::Refused(r) => turned_down(m, store, lengths, at, r),
-    }
-}
-
-// Runs a table of instruction records on a machine: rules 10, then 11, 13, 14 and 15, whose places are entries.
-pub fn run_table(
-    m: Machine,
-    store: &mut [u8],
-    lengths: &mut [u16],
-    at: Position,
-    table: &[Instruction],
-    budget: u32,
-) -> Run
-    ensures { λ r. ⌜ handed r (now (store .exit)) (now (lengths .exit))
-        ≡ table-called (memory m (now (store .entry)) (now (lengths .entry))) at budget (entries-of (now (table .entry))) ⌝ }
-{
-    run_gathered(m, store, lengths, at, records::gather(table), budget)
 }
 
 // The two parts of what a run hands back.

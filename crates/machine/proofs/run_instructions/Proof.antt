@@ -1,8 +1,10 @@
 -- `run_instructions` meets its contract: the run of the table, and its refusal as that of the word.
+use mathlib.Core.Path.{ap, _∙_}
 use native.Mathlib.Omega.{arith}
 use Rattle.theory.proofs.Words.{table-good}
 use Rattle.word.specs.Answers.{zipped}
-use Rattle.memory.specs.Calls.{memory}
+use Rattle.memory.specs.declared.answers.Ended.{Ended}
+use Rattle.memory.specs.Calls.{memory, handed, moved-to}
 use Rattle.engine.proofs.Rule15.{zipped-length}
 use Rattle.engine.proofs.Accepted.{accepted-paired}
 use Rattle.machine.proofs.ByByte.{ran-by-table}
@@ -13,11 +15,11 @@ use Rattle.machine.proofs.run_instructions.Tie as tie
 run-numbers-requires : tie.Need-run-numbers-requires
 run-numbers-requires c κs = search needs
 
+enum-told : tie.Need-enum-told
+enum-told c = search needs
+
 enum-known-ended : tie.Need-enum-known-ended
 enum-known-ended c = search needs
-
-enum-known-ended-2 : tie.Need-enum-known-ended-2
-enum-known-ended-2 c = search needs
 
 by-byte-requires : tie.Need-by-byte-requires
 by-byte-requires c κs =
@@ -43,11 +45,13 @@ same-length-2 c = search needs
 
 returns : tie.Need-returns
 returns c =
-    let a = c .before .before .before .before .before .before .before .before .before .before .before .before .before .before .before
-    .args in
-    ran-by-table (memory (a .m) (a .store .now) (a .lengths .now)) (a .at) (a .budget) (zipped (a .kinds .now) (a .operands .now))
-    (c .before .before .before .before .before .before .before .before .before .before .before .before .before .before .before .pre)
-    _ _ _ (c .before .before .before .before .before .before .before .before .run-numbers .ensures) _ (c .before .ended .given .1)
+    let u = c .before .before .before .before .before .before .before in
+    let s = u .before .before .before .before .before .before .before in
+    let a = s .args in
+    let z = u .run-numbers .last in
+    ap (λ (e : Ended). handed (moved-to (u .run-numbers .result .position) e) (z .1 .0) (z .1 .1 .0)) (c .enum-told .given .1)
+    ∙ ran-by-table (memory (a .m) (a .store .now) (a .lengths .now)) (a .at) (a .budget) (zipped (a .kinds .now) (a .operands .now))
+    (s .pre) _ _ _ (u .run-numbers .ensures) _ (c .enum-told .given .1)
 
 same-length-3 : tie.Need-same-length-3
 same-length-3 c = search needs
@@ -57,21 +61,20 @@ same-length-4 c = search needs
 
 returns-2 : tie.Need-returns-2
 returns-2 c =
-    let a = c .before .before .before .before .before .before .before .before .before .before .before .before .before .before .before
-    .before .args in
+    let u = c .before .before .before .before .before .before .before .before .before in
+    let s = u .before .before .before .before .before .before .before in
+    let a = s .args in
     rw (c .by-byte .ensures)
     (ran-by-table (memory (a .m) (a .store .now) (a .lengths .now)) (a .at) (a .budget) (zipped (a .kinds .now) (a .operands .now))
-    (c .before .before .before .before .before .before .before .before .before .before .before .before .before .before .before
-    .before .pre) _ _ _ (c .before .before .before .before .before .before .before .before .before .run-numbers .ensures) _ (c
-    .before .before .ended2 .given .1))
+    (s .pre) _ _ _ (u .run-numbers .ensures) _ (c .before .before .ended .given .1))
 
 pub run-instructions-spec : {M : Type 1} → statement M
 run-instructions-spec =
     tie.close
     (tie.spec
     run-numbers-requires
+    enum-told
     enum-known-ended
-    enum-known-ended-2
     by-byte-requires
     same-length
     same-length-2

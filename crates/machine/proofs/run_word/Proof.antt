@@ -1,14 +1,11 @@
 -- `run_word` meets its contract: what reading the word answers, and then the run of what was read; rule 10 goes before both.
-use mathlib.Core.Path.{refl, sym, ap, _∙_}
-use mathlib.Core.List.{List}
+use mathlib.Core.Path.{refl, sym}
 use native.Mathlib.Omega.{arith}
 use lib.Seq.{length-take-le}
-use Rattle.theory.specs.Word.{Entry}
-use Rattle.theory.specs.TurnedDown.{word-entries, for-machine}
+use Rattle.theory.specs.TurnedDown.{word-entries}
 use Rattle.theory.proofs.Words.{good-table}
-use Rattle.memory.specs.Calls.{memory, called}
-use Rattle.machine.specs.ByByte.{word-for}
-use Rattle.machine.proofs.ReadWord.{Got, word-good, got-refused, got-done, word-refused, word-read}
+use Rattle.memory.specs.Calls.{memory}
+use Rattle.machine.proofs.ReadWord.{Got, word-good, got-refused, got-done, word-refused, word-ran}
 use borrow.Author.Needs.{needs}
 use Rattle.machine.proofs.run_word.Statement.{statement}
 use Rattle.machine.proofs.run_word.Tie as tie
@@ -84,13 +81,11 @@ same-length-2 c = search needs
 
 returns : tie.Need-returns
 returns c =
-    let a = c .before .before .before .before .before .before .before .before .before .before .before .before .before .before .before
-    .before .before .before .before .before .args in
-    let m = memory (a .m) (a .store .now) (a .lengths .now) in
-    let got = read (c .before .before .before .before .before .before .before .before .before .before) in
-    c .before .before .before .before .run-instructions .ensures
-    ∙ ap (λ (t : List Entry). called m (a .at) (a .budget) (for-machine m (word-for (a .m .registers) t))) (got .table)
-    ∙ sym (word-read m (a .at) (a .budget) (a .word .now) (got .passes))
+    let r = c .before .before .before .before in
+    let a = r .before .before .before .before .before .before .before .before .before .before .before .before .before .before .before
+    .before .args in
+    word-ran (memory (a .m) (a .store .now) (a .lengths .now)) (a .at) (a .budget) (a .word .now)
+    (read (r .before .before .before .before .before .before)) (r .run-instructions .ensures)
 
 same-length-3 : tie.Need-same-length-3
 same-length-3 c = search needs

@@ -1,8 +1,8 @@
 -- `turned_down` meets its contract: rule 10 goes before.
 use mathlib.Core.Path.{sym, _∙_}
 use borrow.Author.Needs.{needs}
-use Rattle.machine.proofs.turned_down.Statement.{statement}
-use Rattle.machine.proofs.turned_down.Tie as tie
+use Rattle.precedence.proofs.turned_down.Statement.{statement}
+use Rattle.precedence.proofs.turned_down.Tie as tie
 
 is-memory-requires : tie.Need-is-memory-requires
 is-memory-requires c κs = search needs

@@ -1,5 +1,5 @@
 -- `run_gathered` meets its contract: what gathering the table answered, and then the run of what was gathered; rule 10 goes before both.
-use mathlib.Core.Path.{_≡_, sym, ap, _∙_}
+use mathlib.Core.Path.{_≡_, sym}
 use mathlib.Core.Option.{none}
 use mathlib.Core.List.{List}
 use Prim.Native.Nat.{_≤_}
@@ -9,13 +9,13 @@ use Rattle.theory.specs.Word.{Entry}
 use Rattle.theory.specs.TurnedDown.{table-fault}
 use Rattle.word.specs.Answers.{kinds-of, operands-of, zipped}
 use Rattle.records.specs.Answers.{gathered}
-use Rattle.memory.specs.Calls.{memory, table-called}
+use Rattle.memory.specs.Calls.{memory}
 use Rattle.engine.proofs.Judged.{got-refused, got-done}
 use Rattle.word.proofs.Zipped.{zipped-self}
-use Rattle.machine.proofs.ReadTable.{gathered-answer, got-kinds, got-operands, kinds-room, operands-room, table-refused}
+use Rattle.decoded.proofs.ReadTable.{gathered-answer, got-kinds, got-operands, kinds-room, operands-room, table-ran, table-refused}
 use borrow.Author.Needs.{needs}
-use Rattle.machine.proofs.run_gathered.Statement.{statement}
-use Rattle.machine.proofs.run_gathered.Tie as tie
+use Rattle.decoded.proofs.run_gathered.Statement.{statement}
+use Rattle.decoded.proofs.run_gathered.Tie as tie
 
 -- what was gathered
 module _ (c : tie.After-answer) (t : List Entry) (e : c .before .before .before .before .args .g
@@ -88,11 +88,10 @@ same-length-2 c = search needs
 returns : tie.Need-returns
 returns c =
     λ t e.
-    let a = c .before .before .before .before .before .before .before .before .before .before .before .before .before .before .before
-    .before .args in
-    c .before .before .before .before .run-numbers .ensures
-    ∙ ap (λ (u : List Entry). table-called (memory (a .m) (a .store .now) (a .lengths .now)) (a .at) (a .budget) u)
-    (read-table (c .before .before .before .before .before .before .before .before .before .before .before .before) t e)
+    let n = c .before .before .before .before in
+    let r = n .before .before .before .before .before .before .before .before in
+    let a = r .before .before .before .before .args in
+    table-ran (memory (a .m) (a .store .now) (a .lengths .now)) (a .at) (a .budget) t (read-table r t e) (n .run-numbers .ensures)
 
 same-length-3 : tie.Need-same-length-3
 same-length-3 c = search needs

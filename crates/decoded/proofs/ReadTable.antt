@@ -1,6 +1,5 @@
 -- A table judged, and one gathered into numbers: what comes of it, rule by rule.
-use mathlib.Core.Path.{_≡_, refl, sym, ap, _∙_}
-use mathlib.Core.Bool.{Bool, true, false}
+use mathlib.Core.Path.{_≡_, sym, ap, _∙_}
 use mathlib.Core.Option.{none, some}
 use mathlib.Core.List.{List}
 use Prim.Native.Nat.{ℕ, _≤_}
@@ -8,14 +7,15 @@ use native.Mathlib.Omega.{arith}
 use lib.ListN.{length, take, drop, length-append, length-map}
 use lib.Seq.{take-at}
 use Rattle.theory.specs.Word.{Entry}
-use Rattle.theory.specs.Machines.{Memory, is-memory}
-use Rattle.theory.specs.TurnedDown.{answer, done, refused, read-table, read-table-for, table-fault, rule-10, lent-after, for-machine}
+use Rattle.theory.specs.Machines.{Memory}
+use Rattle.theory.specs.TurnedDown.{done, read-table, read-table-for, table-fault, lent-after}
 use Rattle.theory.specs.declared.Refusal.{Refusal}
 use Rattle.records.specs.declared.Gathered.{Gathered}
 use Rattle.word.specs.Answers.{kinds-of, operands-of, read-answer}
 use Rattle.records.specs.Answers.{gathered, no-numbers}
 use Rattle.memory.specs.declared.answers.Position.{Position}
-use Rattle.memory.specs.Calls.{called, handed, refused-at, after-10, table-called}
+use Rattle.memory.specs.Calls.{Called, turned-down, after-10, table-called}
+use Rattle.precedence.proofs.Refused.{refused-run}
 
 module _ (t : List Entry) (g : Gathered) (is : g ≡ gathered t) where
   pub gathered-answer : g .answer ≡ read-answer (read-table t)
@@ -44,8 +44,7 @@ module _ (t : List Entry) (g : Gathered) (is : g ≡ gathered t) where
     kinds-room = rw kinds-are (omega (
       arith,
       length-append (kinds-of t) (drop (length (kinds-of t)) no-numbers),
-      length-map t
-          (λ e. e .kind),
+      length-map t (λ e. e .kind),
     ))
 
     pub operands-room : n ≤ length (g .operands)
@@ -54,17 +53,15 @@ module _ (t : List Entry) (g : Gathered) (is : g ≡ gathered t) where
         rw operands-are (omega (
           arith,
           length-append (operands-of t) (drop (length (operands-of t)) no-numbers),
-          length-map t
-              (λ e. e .operand),
+          length-map t (λ e. e .operand),
         ))
 
--- The answer of a run of a table that a rule after 10 turns down
-pub table-refused : (m : Memory) (p : Position) (budget : ℕ) (t : List Entry) (r : Refusal) → table-fault t ≡ some r
-    → table-called m p budget t ≡ handed (refused-at p (after-10 m r)) (m .store) (m .lengths)
-unfolding table-called read-table-for rule-10
-table-refused m p budget t r f = rw f (go (is-memory m) refl)
-  where
-    go : (b : Bool) → is-memory m ≡ b → called m p budget (for-machine m (refused r)) ≡ handed (refused-at p (after-10 m r)) (m .store)
-        (m .lengths)
-    go true h = rw h
-    go false h = rw h
+-- The answers of a run of a table
+
+module _ (m : Memory) (p : Position) (budget : ℕ) (t : List Entry) where
+  pub table-ran : {u : List Entry} → u ≡ t → {c : Called} → c ≡ table-called m p budget u → c ≡ table-called m p budget t
+  table-ran same h = h ∙ ap (table-called m p budget) same
+
+  pub table-refused : (r : Refusal) → table-fault t ≡ some r → table-called m p budget t ≡ turned-down m p (after-10 m r)
+  unfolding table-called read-table-for
+  table-refused r f = rw f (refused-run m p budget r)

@@ -1,6 +1,5 @@
 -- `run_table` meets its contract: a walk of its MIR over two calls. The table is lent to `gather`, and the two slices are handed to
--- `run_gathered` for
--- good.
+-- `run_gathered` for good.
 use mathlib.Core.Path.{_≡_, refl, sym, subst}
 use mathlib.Core.List.{List, [], _∷_}
 use Prim.Native.Nat.{ℕ}
@@ -63,14 +62,14 @@ use Rattle.memory.proofs.answers.Position as TP
 use Rattle.memory.proofs.answers.Position.Laws as TP′
 use Rattle.memory.proofs.answers.Run as TR
 use Rattle.memory.proofs.answers.Run.Laws as TR′
-use Rattle.machine.proofs.run_gathered as runs
-use Rattle.machine.proofs.run_gathered.Symbol as run-def
-use Rattle.machine.proofs.run_gathered.Symbol.{name as #machine·run-gathered}
-use Rattle.machine.proofs.run_gathered.Met as run-thm
-use Rattle.machine.proofs.run_table.Key.{name as #machine·run-table}
-use Rattle.machine.proofs.run_table as f
-use Rattle.machine.proofs.run_table.Statement as stated
-use Rattle.machine.proofs.run_table.Code as code
+use Rattle.decoded.proofs.run_gathered as runs
+use Rattle.decoded.proofs.run_gathered.Symbol as run-def
+use Rattle.decoded.proofs.run_gathered.Symbol.{name as #decoded·run-gathered}
+use Rattle.decoded.proofs.run_gathered.Met as run-thm
+use Rattle.decoded.proofs.run_table.Key.{name as #decoded·run-table}
+use Rattle.decoded.proofs.run_table as f
+use Rattle.decoded.proofs.run_table.Statement as stated
+use Rattle.decoded.proofs.run_table.Code as code
 
 abbrev Arg : Type 0
 Arg = Machine × (RefT (List ℕ) × (RefT (List ℕ) × (Position × (RefT (List Instruction) × (ℕ × Unit {0})))))
@@ -193,7 +192,7 @@ module _ {M : Type 1} (𝓤 : URA M) (H : Heap 𝓤) (A : Atoms 𝓤) (W : Given
       nothing ! $ fjoin ! $ frame ! $ done !
 
   module _ (C : Calls 𝓤 H) (Λ : Loops 𝓤 H) (fm : FmC 𝓤 H (W .laws) C) (known₁ : Triple 𝓤 (C #records·gather) (Gather 𝓤 H A mem run))
-      (known₂ : Triple 𝓤 (C #machine·run-gathered) (RunC 𝓤 H A mem run)) where
+      (known₂ : Triple 𝓤 (C #decoded·run-gathered) (RunC 𝓤 H A mem run)) where
     walk : ent 𝓤 (onEntry 𝓤 H A f.signature κs₃ qs₃ x at)
         (WpFn 𝓤 H C Λ code.function (vm ∷ v₀ ∷ v₁ ∷ vp ∷ v₂ ∷ vint w32 budget ∷ []) Post)
     walk =
@@ -264,7 +263,7 @@ module _ {M : Type 1} (𝓤 : URA M) (H : Heap 𝓤) (A : Atoms 𝓤) (W : Given
 
 module _ {M : Type 1} (𝓤 : URA M) (H : Heap 𝓤) (A : Atoms 𝓤) (W : Given 𝓤 H A) (mem : Memory → SProp 𝓤) (run : Routine → Fun 𝓤) where
   run-table-walks : (C : Calls 𝓤 H) (Λ : Loops 𝓤 H) → FmC 𝓤 H (W .laws) C → Triple 𝓤 (C #records·gather) (Gather 𝓤 H A mem run)
-      → Triple 𝓤 (C #machine·run-gathered) (RunC 𝓤 H A mem run)
+      → Triple 𝓤 (C #decoded·run-gathered) (RunC 𝓤 H A mem run)
       → Walks 𝓤 H A f.ended stayed (WpFn 𝓤 H C Λ code.function) (f.clauses 𝓤 H A mem run)
   run-table-walks C Λ fm known₁ known₂ =
       walked 𝓤 H A f.ended stayed (f.clauses 𝓤 H A mem run) (WpFn 𝓤 H C Λ code.function)
@@ -318,7 +317,7 @@ module _ {M : Type 1} (𝓤 : URA M) (H : Heap 𝓤) (A : Atoms 𝓤) (W : Given
 
 run-table-meets : {M : Type 1} (𝓤 : URA M) (H : Heap 𝓤) (A : Atoms 𝓤) → Given 𝓤 H A → (mem : Memory → SProp 𝓤) (run : Routine → Fun 𝓤)
     (𝓣 : Tables 𝓤 H)
-    → Triple 𝓤 (𝓣 .C #records·gather) (Gather 𝓤 H A mem run) → Triple 𝓤 (𝓣 .C #machine·run-gathered) (RunC 𝓤 H A mem run)
+    → Triple 𝓤 (𝓣 .C #records·gather) (Gather 𝓤 H A mem run) → Triple 𝓤 (𝓣 .C #decoded·run-gathered) (RunC 𝓤 H A mem run)
     → Meets 𝓤 H A f.signature (WpFn 𝓤 H (𝓣 .C) (𝓣 .Λ) code.function) (f.spec 𝓤 H A mem run)
 run-table-meets 𝓤 H A W mem run 𝓣 known₁ known₂ =
     walk-meets 𝓤 H A f.ended stayed W (goes 𝓤 H A W mem run) (f.clauses 𝓤 H A mem run) (WpFn 𝓤 H (𝓣 .C) (𝓣 .Λ) code.function)
@@ -328,9 +327,9 @@ pub run-table-spec : {M : Type 1} → stated.statement M
 unfolding code.routine tablesOf
 run-table-spec 𝓤 H 𝓜 𝓖 𝓡 =
     entered 𝓤 H (tripleOf 𝓤 H (𝓖 .A) f.signature (f.spec 𝓤 H (𝓖 .A) (𝓜 .mem) (𝓡 .run)))
-    (tables 𝓤 H 𝓜 𝓡 code.env .C) (tables 𝓤 H 𝓜 𝓡 code.env .Λ) #machine·run-table code.function (code.unfolded 𝓤 H 𝓜 𝓡)
+    (tables 𝓤 H 𝓜 𝓡 code.env .C) (tables 𝓤 H 𝓜 𝓡 code.env .Λ) #decoded·run-table code.function (code.unfolded 𝓤 H 𝓜 𝓡)
     (run-table-meets 𝓤 H (𝓖 .A) (givenOf 𝓤 H 𝓜 𝓖) (𝓜 .mem) (𝓡 .run) (tablesOf 𝓤 H 𝓜 (tables 𝓤 H 𝓜 𝓡 code.env))
     (cited 𝓤 H (Gather 𝓤 H (𝓖 .A) (𝓜 .mem) (𝓡 .run)) 𝓜 𝓡 code.env #records·gather gather-def.routine code.calls-records·gather
     (gather-thm.met 𝓤 H 𝓜 𝓖 𝓡))
-    (cited 𝓤 H (RunC 𝓤 H (𝓖 .A) (𝓜 .mem) (𝓡 .run)) 𝓜 𝓡 code.env #machine·run-gathered run-def.routine code.calls-machine·run-gathered
+    (cited 𝓤 H (RunC 𝓤 H (𝓖 .A) (𝓜 .mem) (𝓡 .run)) 𝓜 𝓡 code.env #decoded·run-gathered run-def.routine code.calls-decoded·run-gathered
     (run-thm.met 𝓤 H 𝓜 𝓖 𝓡)))
