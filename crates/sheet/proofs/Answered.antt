@@ -25,11 +25,10 @@ use Rattle.columns.specs.Columns.{padded, fit-together, columns-as, starts}
 use Rattle.columns.proofs.Padded.{padded-take}
 use Rattle.columns.proofs.Distinct.{different-below, below-more}
 use Rattle.columns.proofs.Fitting.{variables-padded}
-use Rattle.fields.specs.declared.Line.{Line}
 use Rattle.fields.specs.Fields.{line-of}
 use Rattle.fields.proofs.Kept.{kept-all}
 use Rattle.sheet.specs.Answers.{checked-as, sheet-answer, line-at, after-line, columns-of, starts-as, row-answer}
-use Rattle.sheet.specs.Lines.{checked-rows, rows-as, is-sheet-size}
+use Rattle.sheet.specs.Lines.{names-line, line-columns, checked-rows, rows-as, is-sheet-size}
 use Rattle.sheet.proofs.Splits.{lines-next}
 use Rattle.sheet.proofs.Judged.{at-most, above-below}
 
@@ -137,7 +136,7 @@ module _ (s : Bytes) (capacity K : ℕ) (sized : is-sheet-size s ≡ true) where
     rows-passed none m k e = (refl, cc)
     rows-passed (some q) m k e = (cc, cc)
 
-    pub sheet-rows-refused : (count : ℕ) (r : Refusal) → count ≡ line-of K (names (line-at s 0)) .count
+    pub sheet-rows-refused : (count : ℕ) (r : Refusal) → count ≡ names-line s K .count
         → C.Refused r ≡ rows-as capacity count (split-lines (drop (after-line s 0) s))
         → checked-as (some r) [] 0 ≡ sheet-answer capacity K s
     unfolding is-sheet-size sheet-answer sheet-fault sheet-size-fault rows-as line-of rest
@@ -148,18 +147,17 @@ module _ (s : Bytes) (capacity K : ℕ) (sized : is-sheet-size s ≡ true) where
         let faulty : rows-fault capacity (length (k .0)) 2 rest ≡ some r = rw size at found in
         rw (sized, lines, passed, names-some (line-at s 0) rest (k .0) (k .1), faulty)
 
-    pub sheet-done : (line : Line) (rows : ℕ) (columns : List ℕ) → K ≤ 32 → line ≡ line-of K (names (line-at s 0))
-        → columns ≡ columns-as (line .count) (line .numbers) .variables
-        → C.Accepted rows ≡ rows-as capacity (line .count) (split-lines (drop (after-line s 0) s))
-        → record { names = record { columns = columns; count = line .count }; checked = C.Accepted rows } ≡ sheet-answer capacity K s
+    pub sheet-done : (count rows : ℕ) (columns : List ℕ) → K ≤ 32 → count ≡ names-line s K .count
+        → columns ≡ line-columns (names-line s K) .variables
+        → C.Accepted rows ≡ rows-as capacity count (split-lines (drop (after-line s 0) s))
+        → record { names = record { columns = columns; count = count }; checked = C.Accepted rows } ≡ sheet-answer capacity K s
     unfolding is-sheet-size sheet-answer sheet-fault sheet-size-fault rows-as line-of rest
-    sheet-done line rows columns low l x e =
+    sheet-done count rows columns low c x e =
         let k : _ = kept-names (names (line-at s 0)) passed in
-        let kept : line ≡ line-of K (some (k .0)) = rw (k .1) at l in
-        let size : line .count ≡ length (k .0) = ap (λ (m : Line). m .count) kept in
-        let named : columns-as (line .count) (line .numbers) .variables ≡ padded (k .0) =
-        rw (kept, kept-all K (k .0) (k .2)) (kept-columns (k .0) low (k .2) (k .3)) in
-        let fine : _ = rows-passed (rows-fault capacity (line .count) 2 rest) (length rest) rows e in
+        let size : count ≡ length (k .0) = rw (k .1) at c in
+        let named : columns ≡ columns-as (length (k .0)) (padded (k .0)) .variables = rw (k .1, kept-all K (k .0) (k .2)) at x in
+        let cells : columns ≡ padded (k .0) = named ∙ kept-columns (k .0) low (k .2) (k .3) in
+        let fine : _ = rows-passed (rows-fault capacity count 2 rest) (length rest) rows e in
         let clean : rows-fault capacity (length (k .0)) 2 rest ≡ none = rw size at (fine .0) in
         let counted : rows ≡ length (line-at s 0 ∷ rest) - 1 = omega (arith, fine .1) in
-        rw (sized, lines, passed, names-some (line-at s 0) rest (k .0) (k .1), clean) (sheet-same (x ∙ named) size counted)
+        rw (sized, lines, passed, names-some (line-at s 0) rest (k .0) (k .1), clean) (sheet-same cells size counted)

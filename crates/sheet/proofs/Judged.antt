@@ -17,11 +17,10 @@ use Rattle.theory.specs.TurnedDown.{unless, names-fault, values-fault}
 use Rattle.columns.specs.Columns.{padded, is-variable, columns-as}
 use Rattle.columns.proofs.Distinct.{AllBelow, different-below, below-more}
 use Rattle.columns.proofs.Fitting.{fit-many, fit-padded}
-use Rattle.fields.specs.declared.Line.{Line}
 use Rattle.fields.specs.Fields.{line-of, numbers-of, under}
 use Rattle.fields.proofs.Kept.{kept-all}
 use Rattle.sheet.specs.Answers.{fault-as}
-use Rattle.sheet.specs.Lines.{line-fault, names-line-fault, fault-of, is-sheet-size}
+use Rattle.sheet.specs.Lines.{line-fault, names-line-fault, line-columns, fault-of, is-sheet-size}
 
 -- The two ways to read a line
 pub numbers-names : (l : Bytes) → numbers-of true l ≡ names l
@@ -76,12 +75,8 @@ too-many K ns h below many = go (distinct ns) refl
     go true e = absurd (omega (arith, different-below K ns below e))
     go false e = e
 
--- Whether the numbers of a line fit together as columns
-abbrev pub fits : Line → Bool
-fits l = columns-as (l .count) (l .numbers) .fit
-
 pub names-judged : (K : ℕ) (o : Option (List ℕ)) → K ≤ 32
-    → names-line-fault (line-of K o) (fits (line-of K o)) ≡ fault-as (names-fault K o)
+    → names-line-fault (line-of K o) (line-columns (line-of K o) .fit) ≡ fault-as (names-fault K o)
 unfolding line-of names-line-fault
 names-judged K none h = refl
 names-judged K (some ns) h = rw (above-below K ns) (go (all (λ n. ltb n K) ns) refl)

@@ -20,7 +20,15 @@ ghost use Prim.Native.Nat.{_≤_, min};
 ghost use lib.ListN.{length, drop};
 ghost use Rattle.theory.specs.Text.{split-lines};
 ghost use Rattle.sheet.specs.Answers.{sheet-answer, row-answer, checked-as, after-line};
-ghost use Rattle.sheet.specs.Lines.{fault-of, line-fault, names-line-fault, Scans, rows-as, is-sheet-size};
+ghost use Rattle.sheet.specs.Lines.{fault-of, line-fault, names-line-fault, Heads, Scans, rows-as, is-sheet-size};
+
+// The line of names: the variables of its columns, the byte behind the line, and why it is turned down, if it is.
+struct Heading {
+    columns: [u8; Names::COLUMNS],
+    count: usize,
+    next: usize,
+    fault: Fault,
+}
 
 // The numbers of a line of values, before they go to their variables.
 struct Scanned {
@@ -69,6 +77,27 @@ fn names_fault(line: Line, fit: bool) -> Fault
         return turned_down(17, 1);
     }
     if fit { Fault::None } else { turned_down(17, 1) }
+}
+
+// The first line, as names for a program of so many variables, at most 32.
+fn read_names(sheet: &[u8], variables: usize) -> Heading
+    ensures { λ r. ⌜ Heads (now (sheet .entry)) (min variables 32) r ⌝ }
+{
+    let end = find(sheet, 0, b'\n');
+    let line = read_line(
+        &sheet[0..end],
+        true,
+        least(variables, Names::COLUMNS) as u64,
+    );
+    let numbers = line.numbers;
+    let named = named_columns(numbers, line.count);
+    let columns = named.variables;
+    Heading {
+        columns,
+        count: line.count,
+        next: least(end + 1, sheet.len()),
+        fault: names_fault(line, named.fit),
+    }
 }
 
 // The line that begins at `at`, as line `n` of values.
@@ -142,28 +171,20 @@ pub fn check(sheet: &[u8], variables: usize, capacity: u32) -> Sheet
             place: 0,
         });
     }
-    let end = find(sheet, 0, b'\n');
-    let line = read_line(
-        &sheet[0..end],
-        true,
-        least(variables, Names::COLUMNS) as u64,
-    );
-    let numbers = line.numbers;
-    let columns = named_columns(numbers, line.count);
-    let found = names_fault(line, columns.fit);
+    let head = read_names(sheet, variables);
+    let found = head.fault;
     match found {
         Fault::None => {}
         Fault::Refused(r) => return refused(r),
     }
-    let next = least(end + 1, sheet.len());
-    match rows(sheet, line.count, capacity, next) {
+    match rows(sheet, head.count, capacity, head.next) {
         Checked::Refused(r) => refused(r),
         Checked::Accepted(count) => {
-            let variables = columns.variables;
+            let columns = head.columns;
             Sheet {
                 names: Names {
-                    columns: variables,
-                    count: line.count,
+                    columns,
+                    count: head.count,
                 },
                 checked: Checked::Accepted(count),
             }
