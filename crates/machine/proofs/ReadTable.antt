@@ -1,21 +1,16 @@
 -- A table judged, and one gathered into numbers: what comes of it, rule by rule.
 use mathlib.Core.Path.{_≡_, refl, sym, ap, _∙_}
-use mathlib.Core.Bool.{Bool, true, false}
-use mathlib.Core.Option.{none, some}
+use mathlib.Core.Option.{none}
 use mathlib.Core.List.{List}
 use Prim.Native.Nat.{ℕ, _≤_}
 use native.Mathlib.Omega.{arith}
 use lib.ListN.{length, take, drop, length-append, length-map}
 use lib.Seq.{take-at}
 use Rattle.theory.specs.Word.{Entry}
-use Rattle.theory.specs.Machines.{Memory, is-memory}
-use Rattle.theory.specs.TurnedDown.{answer, done, refused, read-table, read-table-for, table-fault, rule-10, lent-after, for-machine}
-use Rattle.theory.specs.declared.Refusal.{Refusal}
+use Rattle.theory.specs.TurnedDown.{answer, done, read-table, table-fault, lent-after}
 use Rattle.records.specs.declared.Gathered.{Gathered}
 use Rattle.word.specs.Answers.{kinds-of, operands-of, read-answer}
 use Rattle.records.specs.Answers.{gathered, no-numbers}
-use Rattle.memory.specs.declared.answers.Position.{Position}
-use Rattle.memory.specs.Calls.{called, handed, refused-at, after-10, table-called}
 
 module _ (t : List Entry) (g : Gathered) (is : g ≡ gathered t) where
   pub gathered-answer : g .answer ≡ read-answer (read-table t)
@@ -57,14 +52,3 @@ module _ (t : List Entry) (g : Gathered) (is : g ≡ gathered t) where
           length-map t
               (λ e. e .operand),
         ))
-
--- The answer of a run of a table that a rule after 10 turns down
-pub table-refused : (m : Memory) (p : Position) (budget : ℕ) (t : List Entry) (r : Refusal) → table-fault t ≡ some r
-    → table-called m p budget t ≡ handed (refused-at p (after-10 m r)) (m .store) (m .lengths)
-unfolding table-called read-table-for rule-10
-table-refused m p budget t r f = rw f (go (is-memory m) refl)
-  where
-    go : (b : Bool) → is-memory m ≡ b → called m p budget (for-machine m (refused r)) ≡ handed (refused-at p (after-10 m r)) (m .store)
-        (m .lengths)
-    go true h = rw h
-    go false h = rw h

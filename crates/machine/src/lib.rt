@@ -8,36 +8,17 @@ ghost use Rattle.theory.specs.Word.{Entry};
 ghost use Rattle.theory.specs.TurnedDown.{total, table-fault, for-machine};
 ghost use Rattle.word.specs.Answers.{zipped, entries-of};
 ghost use Rattle.records.specs.Answers.{gathered};
-ghost use Rattle.memory.specs.Calls.{memory, handed, called, word-called, table-called, refused-at, after-10, moved-to};
+ghost use Rattle.memory.specs.Calls.{memory, handed, called, word-called, table-called, moved-to};
 ghost use Rattle.machine.specs.ByByte.{word-for, by-byte, Paired};
+use engine::turned_down;
 use memory::Ended;
 use memory::Machine;
 use memory::Position;
 use memory::Run;
-use memory::is_memory;
 use records::Gathered;
 use theory::Refusal;
 use word::Instruction;
 use word::Read;
-
-// A call that a rule after 10 turns down: rule 10 goes before.
-fn turned_down(m: Machine, store: &[u8], lengths: &[u16], at: Position, r: Refusal) -> Run
-    ensures { λ x. ⌜ x ≡ refused-at at (after-10 (memory m (now (store .entry)) (now (lengths .entry))) r) ⌝ }
-{
-    if is_memory(m, store, lengths) {
-        return Run {
-            position: at,
-            ended: Ended::Refused(r),
-        };
-    }
-    Run {
-        position: at,
-        ended: Ended::Refused(Refusal {
-            number: 10,
-            place: 0,
-        }),
-    }
-}
 
 // Where instruction n starts in the word, counted from 0: all symbols of those before it.
 fn start_of(kinds: &[u8], operands: &[u32], n: usize) -> usize
