@@ -10,7 +10,8 @@ use lib.Dec.{ltb, leb}
 use lib.ListN.{length, take}
 use Rattle.theory.specs.Basics.{given, or-else, EachOf}
 use Rattle.theory.specs.Word.{Entry}
-use Rattle.theory.specs.TurnedDown.{names-register, lacks, first-along, next-byte, next-entry, total, entry-size, table-fault, rule-15, refuse}
+use Rattle.theory.specs.TurnedDown.{names-register, lacks, first-along, next-byte, next-entry, total, entry-size}
+use Rattle.theory.specs.TurnedDown.{table-fault, rule-15, refuse}
 use Rattle.theory.proofs.Words.{Formed, table-good}
 use Rattle.word.specs.Answers.{zipped}
 use Rattle.usable.specs.Usable.{unusable, first-unusable}

@@ -1,7 +1,7 @@
 -- Putting registers in order: one ring turned by way of a copy, and one place after the other.
-use mathlib.Core.Path.{_≡_, refl, sym, ap, ap₂, _∙_}
+use mathlib.Core.Path.{_≡_, refl, sym, ap, _∙_}
 use mathlib.Core.Bool.{Bool, true, false}
-use mathlib.Core.List.{List, [], _∷_, _++_, append-assoc, append-nil}
+use mathlib.Core.List.{List, [], _++_, append-assoc, append-nil}
 use Prim.Native.Nat.{ℕ, suc, _+_, _-_, _≤_, _<_, min}
 use native.Mathlib.Numerals.{add-one}
 use native.Mathlib.Omega.{arith}
@@ -130,7 +130,8 @@ module _ (capacity : ℕ) (starts old : List ℕ) where
 
           place : from-start (getD starts i 0) (take capacity (drop from store)) ≡ part
           place =
-              ap (from-start (getD starts i 0)) (cut-take capacity size (drop from store) rest ∙ ap (λ (k : ℕ). take k (drop from store)) (sym d))
+              ap (from-start (getD starts i 0)) (cut-take capacity size (drop from store) rest ∙ ap (λ (k : ℕ). take k (drop from
+              store)) (sym d))
               ∙ sym turned
 
           past : drop capacity (drop from store) ≡ drop to store

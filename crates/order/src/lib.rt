@@ -1,4 +1,5 @@
-// Registers put in order at the end of a run, inside which each one's symbols lie in a ring: they begin at the first byte of its place again.
+// Registers put in order at the end of a run, inside which each one's symbols lie in a ring: they begin at the first byte of its place
+// again.
 ghost use mathlib.Core.Path.{_≡_};
 ghost use Prim.Native.Nat.{_≤_, min};
 ghost use lib.ListN.{length};

@@ -7,8 +7,8 @@ use Prim.Native.Nat.{ℕ, suc, _+_, _-_, _*_, _≤_, _<_}
 use native.Mathlib.Omega.{arith}
 use borrow.Author.Tests.{lt-ltb, le-ltb, ltb-true, ltb-false, eqb-true, eqb-false}
 use lib.Dec.{eqb, ltb}
-use lib.ListN.{length, take, drop, getD, set, length-set, length-append, length-drop}
-use lib.Seq.{getD-set-same, getD-set-other, set-getD, getD-take, getD-drop, length-take-le, take-length, ext-getD}
+use lib.ListN.{length, getD, set, length-set, length-append}
+use lib.Seq.{getD-set-same, getD-set-other, set-getD}
 use Rattle.theory.specs.Basics.{put}
 use Rattle.theory.specs.Word.{Symbol, byte-of}
 use Rattle.theory.specs.Machines.{laid, lengths-of}
@@ -18,7 +18,7 @@ use Rattle.memory.specs.Held.{Sized, Held}
 use Rattle.rings.specs.Ring.{Ring, Zeros, Appended, Deleted, wrapped}
 use Rattle.memory.proofs.Places.{place-ends}
 use Rattle.rings.proofs.Registers.{lengths-put}
-use Rattle.rings.proofs.OneRegister.{laid-append, laid-next, laid-last, held-byte, places-stored}
+use Rattle.rings.proofs.OneRegister.{laid-append, laid-next, laid-last, held-byte}
 
 -- Places in a ring
 

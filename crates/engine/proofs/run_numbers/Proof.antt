@@ -33,7 +33,8 @@ returns c =
     let a = c .before .before .before .before .before .before .before .before .before .before .before .before .before .before .args in
     let m = memory (a .m) (a .store .now) (a .lengths .now) in
     let t = zipped (a .kinds .now) (a .operands .now) in
-    let passed = got-done t _ (c .before .before .before .before .before .before .before .before .before .check .ensures) _ (c .before .before .before .before .before .before .before .enum-told .given .1) .0 in
+    let passed = got-done t _ (c .before .before .before .before .before .before .before .before .before .check .ensures) _ (c .before
+    .before .before .before .before .before .before .enum-told .given .1) .0 in
     c .before .before .before .before .run .ensures ∙ table-run m (a .at) (a .budget) t passed
 
 same-length-3 : tie.Need-same-length-3
@@ -48,7 +49,8 @@ returns-2 c =
     let m = memory (a .m) (a .store .now) (a .lengths .now) in
     let t = zipped (a .kinds .now) (a .operands .now) in
     rw (c .turned-down .ensures)
-    (sym (table-refused m (a .at) (a .budget) t _ (got-refused t _ (c .before .before .before .before .before .before .check .ensures) _ (c .before .before .before .before .r .given .1))))
+    (sym (table-refused m (a .at) (a .budget) t _ (got-refused t _ (c .before .before .before .before .before .before .check .ensures)
+    _ (c .before .before .before .before .r .given .1))))
 
 pub run-numbers-spec : {M : Type 1} → statement M
 run-numbers-spec =

@@ -48,7 +48,8 @@ shared-slice-read-turn c = search needs
 turn-requires : tie.Need-turn-requires Inv-loop μ-loop
 turn-requires c κs =
     let a = c .before .before .before .before .before .before .before .before .args in
-    let size = place-size (a .capacity) (a .starts .now) (a .store .now) (c .before .before .before .before .loop .inv) (c .before .before .before .loop-test .taken) (c .before .before .shorter .result) _
+    let size = place-size (a .capacity) (a .starts .now) (a .store .now) (c .before .before .before .before .loop .inv) (c .before
+    .before .before .loop-test .taken) (c .before .before .shorter .result) _
     (c .before .before .shorter .ensures) refl in
     omega (arith, size, c .before .before .shorter .ensures, c .before .before .before .before .before .if1 .left)
 
@@ -61,7 +62,8 @@ loop-less c = search needs
 loop-again : tie.Need-loop-again Inv-loop μ-loop
 loop-again c =
     let a = c .before .before .before .before .before .before .before .before .before .before .before .args in
-    ordering-more (a .capacity) (a .starts .now) (a .store .now) (c .before .before .before .before .before .before .before .loop .inv) (c .before .before .before .before .before .before .loop-test .taken) (c .before .before .before .before .before .shorter .result) _
+    ordering-more (a .capacity) (a .starts .now) (a .store .now) (c .before .before .before .before .before .before .before .loop .inv)
+    (c .before .before .before .before .before .before .loop-test .taken) (c .before .before .before .before .before .shorter .result) _
     (c .before .before .before .before .before .shorter .ensures) refl _ (c .before .before .turn .ensures)
 
 same-length : tie.Need-same-length Inv-loop μ-loop

@@ -45,8 +45,11 @@ same-length c = search needs
 
 returns-3 : tie.Need-returns-3
 returns-3 c =
-    let a = c .before .before .before .before .before .before .before .before .before .before .before .before .before .before .before .before .before .before .before .args in
-    turned-by (a .start) _ (search needs) (search needs) (c .before .before .before .before .before .before .before .before .before .before .before .before .before .put-bytes .ensures) (c .before .before .before .before .before .before .before .before .put-bytes2 .ensures) (c .before .before .put-bytes3 .ensures)
+    let a = c .before .before .before .before .before .before .before .before .before .before .before .before .before .before .before
+    .before .before .before .before .args in
+    turned-by (a .start) _ (search needs) (search needs) (c .before .before .before .before .before .before .before .before .before
+    .before .before .before .before .put-bytes .ensures) (c .before .before .before .before .before .before .before .before .put-bytes2
+    .ensures) (c .before .before .put-bytes3 .ensures)
 
 pub turn-spec : {M : Type 1} → statement M
 turn-spec =

@@ -16,7 +16,8 @@ use borrow.Author.Needs.{needs}
 use Rattle.rings.proofs.run.Statement.{statement}
 use Rattle.rings.proofs.run.Tie as tie
 
-good : (c : tie.Else1) → let a = c .before .before .before .before .before .before .before .before .args in is-memory (memory (a .m) (a .store .now) (a .lengths .now)) ≡ true
+good : (c : tie.Else1) → let a = c .before .before .before .before .before .before .before .before .args in is-memory (memory (a .m) (a
+    .store .now) (a .lengths .now)) ≡ true
 good c = sym (c .before .is-memory .ensures) ∙ not-false _ (c .if1 .left)
 
 -- the machine can do every entry
@@ -63,7 +64,8 @@ run-usable-requires : tie.Need-run-usable-requires
 run-usable-requires c κs =
     let a = c .before .before .before .before .before .before .before .before .before .before .before .before .before .args in
     let fine = good (c .before .before .before .before .before) in
-    let limits = memory-limits (a .m .capacity) (a .store .now) (a .lengths .now) (lent-good (a .m) (a .store .now) (a .lengths .now) fine) in
+    let limits = memory-limits (a .m .capacity) (a .store .now) (a .lengths .now) (lent-good (a .m) (a .store .now) (a .lengths .now)
+    fine) in
     let count = lent-count (a .m) (a .store .now) (a .lengths .now) fine in
     (fine, all-usable (a .m .registers) (a .kinds .now) (a .operands .now) (nothing (c .before .before)) (omega (arith, limits .0, count)))
 
@@ -80,7 +82,8 @@ returns-2 c =
     let i = c .before .before .i in
     rw (
       c .turned-down2 .ensures,
-      refused-15 m (a .at) (a .budget) (zipped (a .kinds .now) (a .operands .now)) (good (c .before .before .before .before .before)) (i .given .0 .0)
+      refused-15 m (a .at) (a .budget) (zipped (a .kinds .now) (a .operands .now)) (good (c .before .before .before .before .before))
+          (i .given .0 .0)
           (found _ (i .given .0 .0) (sym (i .given .1) ∙ c .before .before .before .before .first-unusable .ensures)),
     )
 
@@ -92,10 +95,12 @@ same-length-6 c = search needs
 
 returns-3 : tie.Need-returns-3
 returns-3 c =
-    let a = c .before .before .before .before .before .before .before .before .before .before .before .before .before .before .before .before .before .before .args in
+    let a = c .before .before .before .before .before .before .before .before .before .before .before .before .before .before .before
+    .before .before .before .args in
     let m = memory (a .m) (a .store .now) (a .lengths .now) in
     c .before .before .before .before .run-usable .ensures
-    ∙ sym (all-done m (a .at) (a .budget) (zipped (a .kinds .now) (a .operands .now)) (good (c .before .before .before .before .before .before .before .before .before .before)) (nothing (c .before .before .before .before .before .before .before)))
+    ∙ sym (all-done m (a .at) (a .budget) (zipped (a .kinds .now) (a .operands .now)) (good (c .before .before .before .before .before
+    .before .before .before .before .before)) (nothing (c .before .before .before .before .before .before .before)))
 
 pub run-spec : {M : Type 1} → statement M
 run-spec =

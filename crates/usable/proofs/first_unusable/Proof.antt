@@ -69,7 +69,11 @@ returns-2 c =
     let l = c .before .before .loop in
     let at : l .i ≡ c .before .before .before .shorter2 .result = omega (arith, l .inv .0, c .before .loop-test .left) in
     rw (← at) (ap unusable-answer (sym (l .inv .1 ∙ stops-operands (a .registers) (a .kinds .now) (a .operands .now) (l .i)
-    (omega (arith, c .before .before .before .shorter2 .ensures, c .before .before .before .before .shorter .ensures)) (omega (arith, c .if2 .taken)))))
+    (omega (arith, c .before .before .before .shorter2 .ensures, c .before .before .before .before .shorter .ensures)) (omega (
+      arith,
+      c
+          .if2 .taken,
+    )))))
 
 returns-3 : tie.Need-returns-3 Inv-loop μ-loop
 returns-3 c =
@@ -77,14 +81,20 @@ returns-3 c =
     let l = c .before .before .before .loop in
     let at : l .i ≡ c .before .before .before .before .shorter2 .result = omega (arith, l .inv .0, c .before .before .loop-test .left) in
     rw (← at) (ap unusable-answer (sym (l .inv .1 ∙ stops-kinds (a .registers) (a .kinds .now) (a .operands .now) (l .i)
-    (omega (arith, c .before .before .before .before .shorter2 .ensures, c .before .before .before .before .before .shorter .ensures)) (omega (arith, c .if3 .taken)) (omega (arith, c .before .if2 .left)))))
+    (omega (arith, c .before .before .before .before .shorter2 .ensures, c .before .before .before .before .before .shorter .ensures))
+    (omega (arith, c .if3 .taken)) (omega (arith, c .before .if2 .left)))))
 
 returns-4 : tie.Need-returns-4 Inv-loop μ-loop
 returns-4 c =
     let a = c .before .before .before .before .before .before .before .before .args in
     let l = c .before .before .before .loop in
     ap unusable-answer (sym (l .inv .1 ∙ ends (a .registers) (a .kinds .now) (a .operands .now) (l .i)
-    (omega (arith, c .before .before .loop-test .left, c .before .if2 .left)) (omega (arith, c .before .before .loop-test .left, c .if3 .left))))
+    (omega (arith, c .before .before .loop-test .left, c .before .if2 .left)) (omega (
+      arith,
+      c .before .before .loop-test .left,
+      c .if3
+          .left,
+    ))))
 
 pub first-unusable-spec : {M : Type 1} → statement M
 first-unusable-spec =

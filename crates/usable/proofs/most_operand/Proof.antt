@@ -11,7 +11,12 @@ returns-2 : tie.Need-returns-2
 returns-2 c = no-kind _ _ (c .if1 .taken)
 
 returns-3 : tie.Need-returns-3
-returns-3 c = let a = c .before .before .before .before .args in high-kind (a .registers) (a .kind) (omega (arith, c .if3 .left, c .before .before .before .match .rest .1))
+returns-3 c = let a = c .before .before .before .before .args in high-kind (a .registers) (a .kind) (omega (
+  arith,
+  c .if3 .left,
+  c
+      .before .before .before .match .rest .1,
+))
 
 returns-4 : tie.Need-returns-4
 returns-4 c = rw (c .match .keys1)

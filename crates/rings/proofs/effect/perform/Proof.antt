@@ -15,7 +15,14 @@ use Rattle.rings.proofs.effect.perform.Tie as tie
 names : (c : tie.At-match-rest) → names-register (c .before .before .before .before .args .kind) ≡ true
 names c =
     let r = c .match .rest in
-    rw (lt-ltb (c .before .before .before .before .args .kind) 3 (omega (arith, c .before .before .before .before .pre .2 .last, r .0 .0 .1, r .0 .1, r .1)))
+    rw (lt-ltb (c .before .before .before .before .args .kind) 3 (omega (
+      arith,
+      c .before .before .before .before .pre .2 .last,
+      r .0
+          .0 .1,
+      r .0 .1,
+      r .1,
+    )))
 
 add-t9 : tie.Need-add-t9
 add-t9 c = search needs
@@ -51,7 +58,8 @@ next-if-requires c κs = search needs
 returns : tie.Need-returns
 returns c f i k o h =
     let a = c .before .before .before .before .args in
-    rw (is-forward i (k ∙ c .match .keys1) o) (did-forward (a .capacity) f (a .here) _ _ _ (a .operand) (c .before .before .before .before .pre .2 .small) h)
+    rw (is-forward i (k ∙ c .match .keys1) o) (did-forward (a .capacity) f (a .here) _ _ _ (a .operand) (c .before .before .before
+    .before .pre .2 .small) h)
 
 returns-2 : tie.Need-returns-2
 returns-2 c f i k o h =
@@ -71,10 +79,19 @@ same-length-3 c = search needs
 
 returns-3 : tie.Need-returns-3
 returns-3 c f i k o h =
-    let a = c .before .before .before .before .before .before .before .before .before .before .before .before .before .before .before .args in
-    let e : a .operand ≡ suc (a .operand - 1) = omega (arith, c .before .before .before .before .before .before .before .before .before .before .before .before .before .before .before .pre .2 .some) in
+    let a = c .before .before .before .before .before .before .before .before .before .before .before .before .before .before .before
+    .args in
+    let e : a .operand ≡ suc (a .operand - 1) = omega (
+      arith,
+      c .before .before .before .before .before .before .before .before .before
+          .before .before .before .before .before .before .pre .2 .some,
+    ) in
     let d = c .before .before .before .before .before .before .before .delete-first in
-    rw (is-cases i (k ∙ c .before .before .before .before .before .before .before .before .before .before .before .match .keys3) (o ∙ e), c .by-byte .ensures)
+    rw (
+      is-cases i (k ∙ c .before .before .before .before .before .before .before .before .before .before .before .match .keys3) (o ∙
+          e),
+      c .by-byte .ensures,
+    )
     (did-cases (a .capacity) f (a .here) _ _ _ (a .operand - 1) (d .result) (d .ensures f h))
 
 same-length-4 : tie.Need-same-length-4
@@ -89,12 +106,17 @@ same-length-6 c = search needs
 returns-4 : tie.Need-returns-4
 returns-4 c f i k o h =
     let a = c .before .before .before .before .before .before .before .before .before .before .before .before .before .before .args in
-    let e : a .operand ≡ suc (a .operand - 1) = omega (arith, c .before .before .before .before .before .before .before .before .before .before .before .before .before .before .pre .2 .some) in
+    let e : a .operand ≡ suc (a .operand - 1) = omega (
+      arith,
+      c .before .before .before .before .before .before .before .before .before
+          .before .before .before .before .before .pre .2 .some,
+    ) in
     let r = c .before .before .before .before .before .before .before .before .before .before .match .rest in
     let done = c .before .before .before .before .before .append in
     let (x, is, byte) = is-append i (r .0 .0 .1) (r .0 .1) (r .1) k (o ∙ e) in
     rw (is, c .next-if .ensures)
-    (did-append (a .capacity) f (a .here) _ _ _ (a .operand - 1) x (done .result) (done .ensures f x (c .before .before .before .before .before .before .symbol-of .ensures ∙ byte) h))
+    (did-append (a .capacity) f (a .here) _ _ _ (a .operand - 1) x (done .result) (done .ensures f x (c .before .before .before .before
+    .before .before .symbol-of .ensures ∙ byte) h))
 
 pub perform-spec : {M : Type 1} → statement M
 perform-spec =

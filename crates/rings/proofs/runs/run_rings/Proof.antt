@@ -21,10 +21,12 @@ abbrev μ-loop : tie.MeasureT-loop
 -- a run that goes on stands at an instruction, and has a step left
 going : (c : tie.Then1 Inv-loop μ-loop)
     → let l = c .before .before .loop in
-    (1000000 < l .here) × (l .here ≤ 1000000 + length (c .before .before .before .before .before .before .before .before .before .args .kinds .now)) × (l .k < c .before .before .before .allowance .result)
+    (1000000 < l .here) × (l .here ≤ 1000000 + length (c .before .before .before .before .before .before .before .before .before .args
+    .kinds .now)) × (l .k < c .before .before .before .allowance .result)
 going c = at-instruction _ _ _ _ (sym (c .before .goes-on .ensures) ∙ c .if1 .taken)
 
-inside : (c : tie.Then1 Inv-loop μ-loop) → c .before .before .loop .here - 1000000 - 1 < length (c .before .before .before .before .before .before .before .before .before .args .kinds .now)
+inside : (c : tie.Then1 Inv-loop μ-loop) → c .before .before .loop .here - 1000000 - 1 < length (c .before .before .before .before
+    .before .before .before .before .before .args .kinds .now)
 inside c = omega (arith, going c .0, going c .1)
 
 add-last : tie.Need-add-last Inv-loop μ-loop
@@ -58,10 +60,20 @@ mul-perform : tie.Need-mul-perform Inv-loop μ-loop
 mul-perform c = search needs
 
 shared-slice-read-perform-2 : tie.Need-shared-slice-read-perform-2 Inv-loop μ-loop
-shared-slice-read-perform-2 c = omega (arith, inside (c .before .before .before .before .before), c .before .before .before .before .before .before .before .before .before .before .before .before .before .before .pre .2 .paired)
+shared-slice-read-perform-2 c = omega (
+  arith,
+  inside (c .before .before .before .before .before),
+  c .before .before .before .before
+      .before .before .before .before .before .before .before .before .before .before .pre .2 .paired,
+)
 
 cast-perform : tie.Need-cast-perform Inv-loop μ-loop
-cast-perform c = omega (arith, c .before .before .before .before .before .before .before .before .before .before .before .before .before .before .pre .2 .each (c .before .before .before .before .before .before .before .loop .here - 1000000 - 1) (inside (c .before .before .before .before .before)) .small)
+cast-perform c = omega (
+  arith,
+  c .before .before .before .before .before .before .before .before .before .before .before .before
+      .before .before .pre .2 .each (c .before .before .before .before .before .before .before .loop .here - 1000000 - 1) (inside (c
+      .before .before .before .before .before)) .small,
+)
 
 perform-requires : tie.Need-perform-requires Inv-loop μ-loop
 perform-requires c κs =
@@ -71,7 +83,8 @@ perform-requires c κs =
     let limits = memory-limits (a .capacity) (a .store .now) (a .lengths .now) (p .0) in (
       ring-sized (r .held) (omega (arith, limits .0, r .counts)) (limits .2),
       (r .registers, r .held),
-      rw (r .counts) (p .2 .each (c .before .before .before .before .before .before .before .loop .here - 1000000 - 1) (inside (c .before .before .before .before .before))),
+      rw (r .counts) (p .2 .each (c .before .before .before .before .before .before .before .loop .here - 1000000 - 1) (inside (c
+          .before .before .before .before .before))),
       omega (arith, going (c .before .before .before .before .before) .0),
       omega (arith, going (c .before .before .before .before .before) .1, p .2 .count),
     )
@@ -96,35 +109,57 @@ same-length-3 c = search needs
 
 returns : tie.Need-returns Inv-loop μ-loop
 returns c =
-    let a = c .before .before .before .before .before .before .before .before .before .before .before .before .before .before .before .before .before .before .before .before .before .before .before .before .args in
-    let l = c .before .before .before .before .before .before .before .before .before .before .before .before .before .before .before .before .before .loop in
+    let a = c .before .before .before .before .before .before .before .before .before .before .before .before .before .before .before
+    .before .before .before .before .before .before .before .before .before .args in
+    let l = c .before .before .before .before .before .before .before .before .before .before .before .before .before .before .before
+    .before .before .loop in
     let r = l .inv .0 in
     let q = c .before .before .before .before .before .before .before .before .before .perform in
-    let g = going (c .before .before .before .before .before .before .before .before .before .before .before .before .before .before .before) in
+    let g = going (c .before .before .before .before .before .before .before .before .before .before .before .before .before .before
+    .before) in
     rw (c .stopped .ensures)
     (running-full (a .capacity) (a .store .now) (a .lengths .now) (a .kinds .now) (a .operands .now) (a .from) (a .steps) (a .budget)
-    (c .before .before .before .before .before .before .before .before .before .before .before .before .before .before .before .before .before .before .allowance .result) r (c .before .before .before .before .before .before .before .before .before .before .before .before .before .before .before .before .before .before .before .before .before .before .before .before .pre .2) (g .0) (g .1) (c .before .before .before .before .before .before .before .before .before .before .before .before .before .before .before .before .before .before .allowance .ensures) (g .2)
+    (c .before .before .before .before .before .before .before .before .before .before .before .before .before .before .before .before
+    .before .before .allowance .result) r (c .before .before .before .before .before .before .before .before .before .before .before
+    .before .before .before .before .before .before .before .before .before .before .before .before .before .pre .2) (g .0) (g .1) (c
+    .before .before .before .before .before .before .before .before .before .before .before .before .before .before .before .before
+    .before .before .allowance .ensures) (g .2)
     (λ i k o. subst
     (λ (x : Step). Performed (a .capacity) (r .registers) (l .here) i x (q .last .0) (q .last .1 .0) (q .last .1 .1 .0))
     (c .before .enum-told .given .1)
     (q .ensures (r .registers) i k o (r .held))))
 
 add-k : tie.Need-add-k Inv-loop μ-loop
-add-k c = omega (arith, going (c .before .before .before .before .before .before .before .before .before .before .before .before .before .before .before) .2)
+add-k c = omega (
+  arith,
+  going (c .before .before .before .before .before .before .before .before .before .before .before .before
+      .before .before .before) .2,
+)
 
 loop-less : tie.Need-loop-less Inv-loop μ-loop
-loop-less c = omega (arith, going (c .before .before .before .before .before .before .before .before .before .before .before .before .before .before .before) .2)
+loop-less c = omega (
+  arith,
+  going (c .before .before .before .before .before .before .before .before .before .before .before .before
+      .before .before .before) .2,
+)
 
 loop-again : tie.Need-loop-again Inv-loop μ-loop
 loop-again c =
-    let a = c .before .before .before .before .before .before .before .before .before .before .before .before .before .before .before .before .before .before .before .before .before .before .before .before .args in
-    let u = c .before .before .before .before .before .before .before .before .before .before .before .before .before .before .before .before .before .before .before .before .before .before .before .before .pre .2 in
-    let l = c .before .before .before .before .before .before .before .before .before .before .before .before .before .before .before .before .before .loop in
+    let a = c .before .before .before .before .before .before .before .before .before .before .before .before .before .before .before
+    .before .before .before .before .before .before .before .before .before .args in
+    let u = c .before .before .before .before .before .before .before .before .before .before .before .before .before .before .before
+    .before .before .before .before .before .before .before .before .before .pre .2 in
+    let l = c .before .before .before .before .before .before .before .before .before .before .before .before .before .before .before
+    .before .before .loop in
     let r = l .inv .0 in
     let q = c .before .before .before .before .before .before .before .before .before .perform in
-    let g = going (c .before .before .before .before .before .before .before .before .before .before .before .before .before .before .before) in (
+    let g = going (c .before .before .before .before .before .before .before .before .before .before .before .before .before .before
+    .before) in (
       running-step (a .capacity) (a .store .now) (a .lengths .now) (a .kinds .now) (a .operands .now) (a .from) (a .steps) (a .budget)
-          (c .before .before .before .before .before .before .before .before .before .before .before .before .before .before .before .before .before .before .allowance .result) r u (g .0) (g .1) (c .before .before .before .before .before .before .before .before .before .before .before .before .before .before .before .before .before .before .allowance .ensures) (g .2) (c .before .there .given .0 .0)
+          (c .before .before .before .before .before .before .before .before .before .before .before .before .before .before .before
+          .before .before .before .allowance .result) r u (g .0) (g .1) (c .before .before .before .before .before .before .before
+          .before .before .before .before .before .before .before .before .before .before .before .allowance .ensures) (g .2) (c
+          .before .there .given .0 .0)
           (λ i k o. subst
           (λ (x : Step). Performed (a .capacity) (r .registers) (l .here) i x (q .last .0) (q .last .1 .0) (q .last .1 .1 .0))
           (c .before .there .given .1)
@@ -153,7 +188,9 @@ returns-2 c =
     let a = c .before .before .before .before .before .before .before .before .before .before .before .args in
     rw (c .stopped2 .ensures, c .before .end-at .ensures)
     (running-over (a .capacity) (a .store .now) (a .lengths .now) (a .kinds .now) (a .operands .now) (a .from) (a .steps) (a .budget)
-    (c .before .before .before .before .before .allowance .result) (c .before .before .before .before .loop .inv .0) (c .before .before .before .before .before .before .before .before .before .before .before .pre .2) (c .before .before .before .before .before .allowance .ensures) (sym (c .before .before .before .goes-on .ensures) ∙ c .before .before .if1 .left))
+    (c .before .before .before .before .before .allowance .result) (c .before .before .before .before .loop .inv .0) (c .before .before
+    .before .before .before .before .before .before .before .before .before .pre .2) (c .before .before .before .before .before
+    .allowance .ensures) (sym (c .before .before .before .goes-on .ensures) ∙ c .before .before .if1 .left))
 
 pub run-rings-spec : {M : Type 1} → statement M
 run-rings-spec =

@@ -26,7 +26,8 @@ use Rattle.rings.proofs.runs.run_usable.Tie as tie
 
 -- what `number` returns, of the place itself
 is : (c : tie.After-number) → c .number .result ≡ number-of (c .before .before .before .before .before .before .args .at .place)
-is c = c .number .ensures ∙ ap number-of (toZ-ofZ {w = w32} {z = c .before .before .before .before .before .before .args .at .place} (record { sfits = c .before .struct-told .given .0 .1 }))
+is c = c .number .ensures ∙ ap number-of (toZ-ofZ {w = w32} {z = c .before .before .before .before .before .before .args .at .place}
+    (record { sfits = c .before .struct-told .given .0 .1 }))
 
 steps-fit : (c : tie.After-struct-told) → c .before .before .before .before .before .args .at .steps ≤ last-count
 steps-fit c = omega (arith, c .struct-told .given .1 .0 .1)
@@ -75,7 +76,12 @@ returns-2 : tie.Need-returns-2
 returns-2 c =
     let a = c .before .before .before .before .before .before .before .before .before .args in
     let p = c .before .before .before .before .before .before .before .before .before .pre in
-    let high = outside-high (length (a .kinds .now)) (a .at .place) (omega (arith, is (c .before .before .before), c .before .if2 .taken)) in
+    let high = outside-high (length (a .kinds .now)) (a .at .place) (omega (
+      arith,
+      is (c .before .before .before),
+      c .before .if2
+          .taken,
+    )) in
     rw (c .strayed2 .ensures) (whole-outside (a .m) (a .store .now) (a .lengths .now) (p .0) (a .kinds .now) (a .operands .now) (p .1)
     (a .at) (a .budget) high)
 
@@ -91,8 +97,16 @@ run-rings-requires c κs =
     let p = c .before .before .before .before .before .before .before .before .before .before .before .pre in
     let good = lent-good (a .m) (a .store .now) (a .lengths .now) (p .0) in
     let count = lent-count (a .m) (a .store .now) (a .lengths .now) (p .0) in
-    let limits = memory-limits (a .m .capacity) (a .store .now) (a .lengths .now) good in
-    (good, record { enough = limits .0; each = λ i l. sym (zeros-at 64 i) }, rw count (p .1), omega (arith, c .before .before .before .if2 .left))
+    let limits = memory-limits (a .m .capacity) (a .store .now) (a .lengths .now) good in (
+      good,
+      record { enough = limits .0; each = λ i l. sym (zeros-at 64 i) },
+      rw count (p .1),
+      omega (
+        arith,
+        c .before .before .before
+            .if2 .left,
+      ),
+    )
 
 sub-put-in-order : tie.Need-sub-put-in-order
 sub-put-in-order c = search needs
@@ -108,11 +122,14 @@ put-in-order-requires c κs = search needs
 
 ran-requires : tie.Need-ran-requires
 ran-requires c κs =
-    let a = c .before .before .before .before .before .before .before .before .before .before .before .before .before .before .before .before .before .before .before .before .before .before .before .args in
-    let p = c .before .before .before .before .before .before .before .before .before .before .before .before .before .before .before .before .before .before .before .before .before .before .before .pre in
+    let a = c .before .before .before .before .before .before .before .before .before .before .before .before .before .before .before
+    .before .before .before .before .before .before .before .before .args in
+    let p = c .before .before .before .before .before .before .before .before .before .before .before .before .before .before .before
+    .before .before .before .before .before .before .before .before .pre in
     let s = stopped (c .before .before .before .before .before .before .before .before .before .before .before) in
     let most = whole-count (a .m) (a .store .now) (a .lengths .now) (p .0) (a .kinds .now) (a .operands .now) (p .1) (a .at) (a .budget)
-    (steps-fit (c .before .before .before .before .before .before .before .before .before .before .before .before .before .before .before .before .before .before)) in
+    (steps-fit (c .before .before .before .before .before .before .before .before .before .before .before .before .before .before
+    .before .before .before .before)) in
     (omega (arith, s .near), omega (arith, most, s .steps))
 
 same-length : tie.Need-same-length
@@ -123,8 +140,10 @@ same-length-2 c = search needs
 
 returns-3 : tie.Need-returns-3
 returns-3 c =
-    let a = c .before .before .before .before .before .before .before .before .before .before .before .before .before .before .before .before .before .before .before .before .before .before .before .before .args in
-    let p = c .before .before .before .before .before .before .before .before .before .before .before .before .before .before .before .before .before .before .before .before .before .before .before .before .pre in
+    let a = c .before .before .before .before .before .before .before .before .before .before .before .before .before .before .before
+    .before .before .before .before .before .before .before .before .before .args in
+    let p = c .before .before .before .before .before .before .before .before .before .before .before .before .before .before .before
+    .before .before .before .before .before .before .before .before .before .pre in
     let good = lent-good (a .m) (a .store .now) (a .lengths .now) (p .0) in
     let limits = memory-limits (a .m .capacity) (a .store .now) (a .lengths .now) good in
     let s = stopped (c .before .before .before .before .before .before .before .before .before .before .before .before) in

@@ -25,7 +25,12 @@ slice-read-n : tie.Need-slice-read-n
 slice-read-n c = search needs
 
 cast-if1 : tie.Need-cast-if1
-cast-if1 c = let p = c .before .before .before .before .pre in omega (arith, ring-within (p .2 .1) (c .before .before .before .before .args .r) (p .1), p .0 .symbols)
+cast-if1 c = let p = c .before .before .before .before .pre in omega (
+  arith,
+  ring-within (p .2 .1) (c .before .before .before .before
+      .args .r) (p .1),
+  p .0 .symbols,
+)
 
 mul-wrapped : tie.Need-mul-wrapped
 mul-wrapped c = search needs
@@ -70,10 +75,12 @@ same-length-2 c = search needs
 
 returns : tie.Need-returns
 returns c f x b h =
-    rw (c .wrapped .ensures, b) (ring-append h (c .before .before .before .before .before .before .before .args .r) (c .before .before .before .before .before .before .before .pre .1) x (c .before .before .if1 .taken))
+    rw (c .wrapped .ensures, b) (ring-append h (c .before .before .before .before .before .before .before .args .r) (c .before .before
+    .before .before .before .before .before .pre .1) x (c .before .before .if1 .taken))
 
 returns-2 : tie.Need-returns-2
-returns-2 c f x b h = ring-full h (c .before .before .before .before .before .args .r) (c .before .before .before .before .before .pre .1) x (c .if1 .left)
+returns-2 c f x b h = ring-full h (c .before .before .before .before .before .args .r) (c .before .before .before .before .before .pre
+    .1) x (c .if1 .left)
 
 pub append-spec : {M : Type 1} → statement M
 append-spec =

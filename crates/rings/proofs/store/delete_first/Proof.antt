@@ -22,7 +22,8 @@ slice-read-n : tie.Need-slice-read-n
 slice-read-n c = search needs
 
 returns : tie.Need-returns
-returns c f h = ring-empty h (c .before .before .before .before .before .args .r) (c .before .before .before .before .before .pre .1) (c .if1 .taken)
+returns c f h = ring-empty h (c .before .before .before .before .before .args .r) (c .before .before .before .before .before .pre .1)
+    (c .if1 .taken)
 
 mul-start : tie.Need-mul-start
 mul-start c = search needs
