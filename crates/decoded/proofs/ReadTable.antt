@@ -1,6 +1,6 @@
 -- A table judged, and one gathered into numbers: what comes of it, rule by rule.
 use mathlib.Core.Path.{_≡_, sym, ap, _∙_}
-use mathlib.Core.Option.{none, some}
+use mathlib.Core.Option.{none}
 use mathlib.Core.List.{List}
 use Prim.Native.Nat.{ℕ, _≤_}
 use native.Mathlib.Omega.{arith}
@@ -8,14 +8,12 @@ use lib.ListN.{length, take, drop, length-append, length-map}
 use lib.Seq.{take-at}
 use Rattle.theory.specs.Word.{Entry}
 use Rattle.theory.specs.Machines.{Memory}
-use Rattle.theory.specs.TurnedDown.{done, read-table, read-table-for, table-fault, lent-after}
-use Rattle.theory.specs.declared.Refusal.{Refusal}
+use Rattle.theory.specs.TurnedDown.{done, read-table, table-fault, lent-after}
 use Rattle.records.specs.declared.Gathered.{Gathered}
 use Rattle.word.specs.Answers.{kinds-of, operands-of, read-answer}
 use Rattle.records.specs.Answers.{gathered, no-numbers}
 use Rattle.memory.specs.declared.answers.Position.{Position}
-use Rattle.memory.specs.Calls.{Called, turned-down, after-10, table-called}
-use Rattle.precedence.proofs.Refused.{refused-run}
+use Rattle.memory.specs.Calls.{Called, table-called}
 
 module _ (t : List Entry) (g : Gathered) (is : g ≡ gathered t) where
   pub gathered-answer : g .answer ≡ read-answer (read-table t)
@@ -61,7 +59,3 @@ module _ (t : List Entry) (g : Gathered) (is : g ≡ gathered t) where
 module _ (m : Memory) (p : Position) (budget : ℕ) (t : List Entry) where
   pub table-ran : {u : List Entry} → u ≡ t → {c : Called} → c ≡ table-called m p budget u → c ≡ table-called m p budget t
   table-ran same h = h ∙ ap (table-called m p budget) same
-
-  pub table-refused : (r : Refusal) → table-fault t ≡ some r → table-called m p budget t ≡ turned-down m p (after-10 m r)
-  unfolding table-called read-table-for
-  table-refused r f = rw f (refused-run m p budget r)

@@ -1,37 +1,21 @@
--- What the rules of words and of tables let pass can be done on the machine; and rule 15, whose place is a byte or an entry.
+-- What the rules of words and of tables let pass: the machine can do it but for rule 15, whose place is a byte or an entry.
 use mathlib.Core.Path.{_≡_, refl, ap, _∙_, subst}
-use mathlib.Core.Bool.{Bool, true, false, _&&_}
-use mathlib.Core.Option.{Option, none, some, Option·none-ne-some, Option·some-injective}
+use mathlib.Core.Bool.{Bool, true, false, cond, not, _&&_}
+use mathlib.Core.Option.{Option, none, some}
 use mathlib.Core.List.{List, [], _∷_}
-use Prim.Native.Nat.{ℕ, zero, suc, _+_, _-_, _≤_, _<_}
+use Prim.Native.Nat.{ℕ, suc, _+_, _-_, _≤_, _<_}
 use native.Mathlib.Omega.{arith}
-use borrow.Author.Tests.{ltb-false}
-use lib.Dec.{ltb}
-use lib.ListN.{length, take, getD}
-use Rattle.theory.specs.TurnedDown.{next-byte, next-entry}
+use borrow.Author.Tests.{lt-ltb, ltb-true, ltb-false, le-leb, lt-leb}
+use lib.Dec.{ltb, leb}
+use lib.ListN.{length, take}
 use Rattle.theory.specs.Basics.{given, or-else, EachOf}
 use Rattle.theory.specs.Word.{Entry}
-use Rattle.theory.specs.TurnedDown.{names-register, lacks, first-along, total, entry-size, table-fault, rule-15, refuse}
-use Rattle.theory.proofs.Faults.{none-first, none-second, given-none}
+use Rattle.theory.specs.TurnedDown.{names-register, lacks, first-along, next-byte, next-entry, total, entry-size}
+use Rattle.theory.specs.TurnedDown.{table-fault, rule-15, refuse}
 use Rattle.theory.proofs.Words.{Formed, table-good}
 use Rattle.word.specs.Answers.{zipped}
-use Rattle.engine.specs.Steps.{Usable, Usables}
-use Rattle.engine.specs.Lacking.{first-lacking}
-use Rattle.engine.proofs.Rule15.{zipped-length}
-
--- An entry that is formed, no longer than a word may be, and names no register that is lacking
-usable : (registers n k operand : ℕ) → Formed (record { kind = k; operand = operand }) → operand + k ≤ 600000
-    → lacks registers n (record { kind = k; operand = operand }) ≡ none → Usable registers k operand
-usable registers n k operand f small none-lacks = record {
-  first = f .kind;
-  last = f .at-most;
-  some = f .operand;
-  small = omega arith;
-  named = λ t. ltb-false registers operand (second t (given-none (names-register k && ltb registers operand) n none-lacks));
-}
-  where
-    second : names-register k ≡ true → (names-register k && ltb registers operand) ≡ false → ltb registers operand ≡ false
-    second t h = rw t at h
+use Rattle.usable.specs.Usable.{unusable, first-unusable}
+use Rattle.engine.proofs.Rule15.{first-lacking}
 
 -- Two lists whose entries are all formed lack no number
 formed-paired : (ks ns : List ℕ) → EachOf Formed (zipped ks ns) → length ks ≡ length ns
@@ -45,27 +29,37 @@ pub accepted-paired : (ks ns : List ℕ) → table-fault (zipped ks ns) ≡ none
 accepted-paired ks ns t = formed-paired ks ns (table-good (zipped ks ns) t .formed)
 
 module _ (registers : ℕ) where
-  each-usable : (n : ℕ) (ks ns : List ℕ) → length ks ≡ length ns → EachOf Formed (zipped ks ns) → total (zipped ks ns) ≤ 600000
-      → first-along next-entry (lacks registers) n (zipped ks ns) ≡ none
-      → (i : ℕ) → i < length ks → Usable registers (getD ks i 0) (getD ns i 0)
-  unfolding zipped first-along
-  each-usable n [] ns e f t h i l = absurd (omega arith)
-  each-usable n (k ∷ ks) [] e f t h i l = absurd (omega arith)
-  each-usable n (k ∷ ks) (m ∷ ns) e f t h zero l =
-      usable registers n k m (f .0) (omega arith) (none-first (lacks registers n (record { kind = k; operand = m })) _ h)
-  each-usable n (k ∷ ks) (m ∷ ns) e f t h (suc i) l =
-      each-usable (suc n) ks ns (omega arith) (f .1) (omega arith) (none-second (lacks registers n (record { kind = k; operand = m })) _ h)
-      i (omega arith)
+  -- An instruction that the machine cannot do names a register that it lacks
+  same-entry : (n : ℕ) (e : Entry) → Formed e → n < 8192 → e .operand ≤ 600000 → unusable registers n e ≡ lacks registers n e
+  same-entry n e f below small =
+      rw (
+        lt-ltb n 8192 below,
+        le-leb 1 (e .kind) (f .kind),
+        le-leb (e .kind) 5 (f .at-most),
+        le-leb 1 (e .operand) (f .operand),
+      )
+      (go (names-register (e .kind)) (ltb registers (e .operand)) refl)
+    where
+      go : (b d : Bool) → ltb registers (e .operand) ≡ d
+          → given (not (leb (e .operand) (cond b registers 600000))) n ≡ given (b && ltb registers (e .operand)) n
+      go true true q = rw (lt-leb (e .operand) registers (ltb-true registers (e .operand) q), q)
+      go true false q = rw (le-leb (e .operand) registers (ltb-false registers (e .operand) q), q)
+      go false d q = rw (le-leb (e .operand) 600000 small)
 
-  pub all-usable : (ks ns : List ℕ) → length ks ≡ length ns → table-fault (zipped ks ns) ≡ none
-      → first-lacking registers (zipped ks ns) ≡ none → Usables registers ks ns
-  all-usable ks ns e t h =
-      let g = table-good (zipped ks ns) t in
-      record {
-        paired = e;
-        count = omega (arith, g .instructions, zipped-length ks ns e);
-        each = each-usable 0 ks ns e (g .formed) (g .symbols) h;
-      }
+  same-search : (n : ℕ) (t : List Entry) → EachOf Formed t → n + length t ≤ 8192 → total t ≤ 600000
+      → first-along next-entry (unusable registers) n t ≡ first-along next-entry (lacks registers) n t
+  unfolding first-along
+  same-search n [] f l s = refl
+  same-search n (e ∷ t) f l s =
+      rw (
+        same-entry n e (f .0) (omega arith) (omega arith),
+        same-search (suc n) t (f .1) (omega arith) (omega arith),
+      )
+
+  pub accepted-search : (t : List Entry) → table-fault t ≡ none → first-unusable registers t ≡ first-lacking registers t
+  accepted-search t h =
+      let g = table-good t h in
+      same-search 0 t (g .formed) (omega (arith, g .instructions)) (g .symbols)
 
   -- Where the first entry that names a register which is lacking starts, if the entries start at byte m and count from n
   abbrev Along : ℕ → ℕ → List Entry → Option ℕ → Type 0
@@ -104,17 +98,3 @@ module _ (registers : ℕ) where
       let d : i - 0 ≡ i = omega arith in
       let sum : 0 + total (take i t) ≡ total (take i t) = omega arith in
       rw (a .1, d, sum)
-
-  -- it is an entry of the table
-  lacking-within : (n : ℕ) (t : List Entry) (i : ℕ) → first-along next-entry (lacks registers) n t ≡ some i → i < n + length t
-  unfolding first-along
-  lacking-within n [] i h = let z : _≡_ {A = Option ℕ} none (some i) = h in absurd (Option·none-ne-some i z)
-  lacking-within n (e ∷ t) i h = go (names-register (e .kind) && ltb registers (e .operand)) h (lacking-within (suc n) t i)
-    where
-      go : (b : Bool) → or-else (given b n) (first-along next-entry (lacks registers) (suc n) t) ≡ some i
-          → (first-along next-entry (lacks registers) (suc n) t ≡ some i → i < suc n + length t) → i < n + length (e ∷ t)
-      go true e later = omega (arith, Option·some-injective n i e)
-      go false e later = omega (arith, later e)
-
-  pub lacking-below : (ks ns : List ℕ) → length ks ≡ length ns → (i : ℕ) → first-lacking registers (zipped ks ns) ≡ some i → i < length ks
-  lacking-below ks ns e i h = omega (arith, lacking-within 0 (zipped ks ns) i h, zipped-length ks ns e)

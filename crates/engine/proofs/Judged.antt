@@ -8,14 +8,17 @@ use native.Mathlib.Omega.{arith}
 use lib.ListN.{length}
 use Rattle.theory.specs.Word.{Entry}
 use Rattle.theory.specs.Machines.{Memory, is-memory}
-use Rattle.theory.specs.TurnedDown.{answer, read-table, read-table-for, table-fault, rule-10}
+use Rattle.theory.specs.TurnedDown.{answer, read-table, read-table-for, table-fault, rule-10, rule-15}
 use Rattle.theory.specs.declared.Refusal.{Refusal}
 use Rattle.word.specs.declared.answers.Read.{Read}
 use Rattle.word.specs.declared.answers.Read.the-variants as R
 use Rattle.word.specs.Answers.{read-answer}
 use Rattle.memory.specs.declared.answers.Position.{Position}
-use Rattle.memory.specs.Calls.{called, turned-down, table-called}
-use Rattle.engine.specs.Entries.{table-for}
+use Rattle.memory.specs.Calls.{called, turned-down, after-10, table-called}
+use Rattle.precedence.proofs.Refused.{refused-run}
+use Rattle.rings.specs.Calls.{usable-table, usable-called}
+use Rattle.engine.proofs.Accepted.{accepted-search}
+use Rattle.engine.proofs.Answered.{table-for}
 
 -- What an answer by rules 11, 13 and 14 says of the table
 module _ (t : List Entry) (r : Read) (is : r ≡ read-answer (read-table t)) where
@@ -44,10 +47,16 @@ module _ (m : Memory) (p : Position) (budget : ℕ) (t : List Entry) where
   unfolding table-called rule-10
   no-memory h = rw h
 
-  pub table-refused : is-memory m ≡ true → (r : Refusal) → table-fault t ≡ some r → table-called m p budget t ≡ turned-down m p r
-  unfolding table-called rule-10 read-table-for
-  table-refused h r f = rw (h, f)
+  -- by a rule after 10
+  pub table-refused : (r : Refusal) → table-fault t ≡ some r → table-called m p budget t ≡ turned-down m p (after-10 m r)
+  unfolding table-called read-table-for
+  table-refused r f = rw f (refused-run m p budget r)
 
   pub table-read : is-memory m ≡ true → table-fault t ≡ none → table-called m p budget t ≡ called m p budget (table-for (m .count) t)
   unfolding table-called rule-10 read-table-for table-for
   table-read h f = rw (h, f)
+
+  -- the run on rings, which knows no rule but 10 and 15, answers as the table's does
+  pub table-run : table-fault t ≡ none → usable-called m p budget t ≡ table-called m p budget t
+  unfolding usable-called usable-table table-called read-table-for rule-15
+  table-run f = rw (f, accepted-search (m .count) t f)

@@ -1,14 +1,4 @@
-pub mod Registers
-pub mod OneRegister
-pub mod Rings
-pub mod Ordering
-pub mod Signs
-pub mod Steps
-pub mod Instructions
-pub mod Outside
-pub mod Running
 pub mod Rule15
-pub mod Whole
 pub mod Accepted
 pub mod Answered
 pub mod Judged

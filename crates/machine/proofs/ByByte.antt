@@ -13,7 +13,7 @@ use Rattle.memory.specs.declared.answers.Ended.{Ended}
 use Rattle.memory.specs.declared.answers.Ended.the-variants as Ended
 use Rattle.memory.specs.declared.answers.Run.{Run}
 use Rattle.memory.specs.Calls.{Called, called, handed, moved-to, table-called}
-use Rattle.engine.specs.Lacking.{first-lacking}
+use Rattle.engine.proofs.Rule15.{first-lacking}
 use Rattle.engine.proofs.Accepted.{no-rule-15, rule-15-at}
 use Rattle.engine.proofs.Answered.{table-lacks, table-passes}
 use Rattle.engine.proofs.Judged.{no-memory, table-read}

@@ -14,6 +14,17 @@ impl Instruction {
     pub const INSTRUCTIONS: usize = 8192;
 
     pub const KINDS: u8 = 5;
+
+    // The kinds: a 1 appended, a # appended, forward, backward, and cases on the first symbol of a register.
+    pub const APPEND_ONE: u8 = 1;
+
+    pub const APPEND_HASH: u8 = 2;
+
+    pub const FORWARD: u8 = 3;
+
+    pub const BACKWARD: u8 = 4;
+
+    pub const CASES: u8 = 5;
 }
 
 // The number of instructions read, or why the word or the table is turned down.

@@ -10,9 +10,9 @@ use Rattle.theory.specs.TurnedDown.{table-fault}
 use Rattle.word.specs.Answers.{kinds-of, operands-of, zipped}
 use Rattle.records.specs.Answers.{gathered}
 use Rattle.memory.specs.Calls.{memory}
-use Rattle.engine.proofs.Judged.{got-refused, got-done}
+use Rattle.engine.proofs.Judged.{got-refused, got-done, table-refused}
 use Rattle.word.proofs.Zipped.{zipped-self}
-use Rattle.decoded.proofs.ReadTable.{gathered-answer, got-kinds, got-operands, kinds-room, operands-room, table-ran, table-refused}
+use Rattle.decoded.proofs.ReadTable.{gathered-answer, got-kinds, got-operands, kinds-room, operands-room, table-ran}
 use borrow.Author.Needs.{needs}
 use Rattle.decoded.proofs.run_gathered.Statement.{statement}
 use Rattle.decoded.proofs.run_gathered.Tie as tie

@@ -1,0 +1,4 @@
+pub mod Ring
+pub mod Steps
+pub mod Inside
+pub mod Calls
