@@ -27,10 +27,9 @@ use Rattle.memory.specs.declared.answers.Position.{Position}
 use Rattle.memory.specs.declared.answers.Run as M
 use Rattle.machine.proofs.ByByte.{ended-by-byte, ran-by-table}
 use Rattle.machine.proofs.ReadWord.{word-good, word-read}
-use Rattle.source_state.specs.State.{source-state, fresh-state}
-use Rattle.source.specs.Answers.{ended-by, state-by, HandsBack}
+use Rattle.source.specs.Answers.{source-state, fresh-state, ended-by, state-by, HandsBack}
 use Rattle.source.specs.declared.answers.Run.{Run}
-use Rattle.source_state.specs.declared.State.{State}
+use Rattle.source.specs.declared.answers.State.{State}
 use Rattle.report.specs.Fresh.{values-of, Starts}
 use Rattle.report.specs.Rows.{ended-of, word-ended, source-ended, row-of, Ready, Tabled, Ran}
 use Rattle.printing.specs.declared.Ended.{Ended}

@@ -3,13 +3,12 @@ use mathlib.Core.List.{List}
 use Prim.Native.Nat.{ℕ, _+_, _-_, _*_, _≤_, _<_}
 use native.Mathlib.Omega.{arith}
 use lib.ListN.{length, getD}
-use Rattle.ready.proofs.Program.{kind-at, first-at, second-at, few-lines, numbers-length}
-use Rattle.source.specs.Lines.{Standing}
-use Rattle.source.proofs.Filling.{enters, targets-room, entries-room}
-use Rattle.source.proofs.Stepping.{first-low, second-low, pair-entry}
+use Rattle.source.specs.Lines.{Ready}
+use Rattle.source.proofs.Program.{few-lines, numbers-length}
+use Rattle.source.proofs.Stepping.{kind-at, first-at, second-at, first-low, second-low, pair-entry}
 use Rattle.theory.specs.ProgramText.{commands}
 
-module _ {l ts es : List ℕ} {line : ℕ} {vs ps : List ℕ} (r : Standing l ts es line vs ps) where
+module _ {l ts es : List ℕ} {line : ℕ} {vs ps : List ℕ} (r : Ready l ts es line vs ps) where
   abbrev m : ℕ
   m = line - 1
 
@@ -24,10 +23,10 @@ module _ {l ts es : List ℕ} {line : ℕ} {vs ps : List ℕ} (r : Standing l ts
   numbers-in = omega (arith, inside, numbers-length l (r .filled .holds))
 
   pub target-in : m < length ts
-  target-in = omega (arith, inside, few-lines l (r .filled .holds), targets-room (r .filled))
+  target-in = omega (arith, inside, r .filled .targets-room)
 
   pub entry-in : m < length es
-  entry-in = omega (arith, inside, few-lines l (r .filled .holds), entries-room (r .filled))
+  entry-in = omega (arith, inside, r .filled .entries-room)
 
   -- The variables, and the entries of the passes-left, that the line names
   pub first-in : (first-at l m < length vs) × (first-at l m < 32)
@@ -37,4 +36,4 @@ module _ {l ts es : List ℕ} {line : ℕ} {vs ps : List ℕ} (r : Standing l ts
   second-in = omega (arith, second-low l (r .filled .holds) m inside, r .values-are)
 
   pub pair-in : 3 < kind-at l m → (getD es m 0 < length ps) × (getD es m 0 < 16)
-  pair-in e = omega (arith, pair-entry l (r .filled .holds) m inside es (enters (r .filled) m inside) e, r .passes-are)
+  pair-in e = omega (arith, pair-entry l (r .filled .holds) m inside es (r .filled .enters m inside) e, r .passes-are)

@@ -1,6 +1,9 @@
-pub mod Filling
+pub mod Program
 pub mod Stepping
 pub mod Bounds
+pub mod Entries
+pub mod Targets
 pub mod Underway
+pub mod Checks
 pub mod Results
-pub mod Readiness
+pub mod Reading

@@ -1,34 +1,57 @@
--- What a run hands back: on a refusal the state as it was, else the state where the steps led.
-use mathlib.Core.Path.{_≡_, refl, sym, _∙_}
-use mathlib.Core.Bool.{true}
-use mathlib.Core.List.{List}
-use Prim.Native.Nat.{ℕ, _+_, _≤_}
+-- What a fresh state is, and what a run hands back: on a refusal the state as it was, else the state where the steps led.
+use mathlib.Core.Path.{_≡_, refl, ap, _∙_, fun-ext}
+use mathlib.Core.Bool.{true, false}
+use mathlib.Core.List.{List, [], _∷_}
+use Prim.Native.Nat.{ℕ, zero, suc, _+_, _≤_}
 use native.Mathlib.Omega.{arith}
-use lib.ListN.{length, getD}
+use lib.ListN.{length, getD, replicate}
 use Rattle.theory.specs.Limits.{last-count, state-values, state-passes}
 use Rattle.theory.specs.Basics.{cells}
-use Rattle.theory.specs.ProgramText.{commands}
+use Rattle.theory.specs.ProgramText.{Command, commands}
 use Rattle.theory.specs.Runs.{run}
 use Rattle.theory.specs.Source as S
-use Rattle.theory.specs.Machines.{run-source}
+use Rattle.theory.specs.Machines.{SourceState, run-source}
 use Rattle.theory.specs.TurnedDown.{refused, is-source, rule-9, run-from}
 use Rattle.theory.specs.declared.Refusal.{Refusal}
 use Rattle.theory.proofs.Budgets.{steps-within}
-use Rattle.source_state.specs.State.{stands, source-state}
-use Rattle.source_state.specs.declared.State.{State}
-use Rattle.ready.proofs.Cells.{same-cells}
-use Rattle.source.specs.Answers.{ended-by, state-by, moved-by, HandsBack}
+use Rattle.source.specs.Answers.{stands, source-state, fresh-state, Fresh, ended-by, state-by, moved-by, HandsBack}
 use Rattle.source.specs.Lines.{machine-of, run-at, outcome-of}
+use Rattle.source.specs.declared.answers.State.{State}
 use Rattle.source.specs.declared.steps.Stop.{Stop}
 use Rattle.source.specs.declared.answers.Ended.the-variants as E
 use Rattle.theory.proofs.Counts.{allows, same-allowed}
 
+-- A fresh state
+
+all-zero : (n d : ℕ) → _≡_ {A = ℕ} (getD (replicate n 0) d 0) 0
+all-zero zero d = refl
+all-zero (suc n) zero = refl
+all-zero (suc n) (suc d) = all-zero n d
+
+pub fresh-back : (capacity : ℕ) (values : List ℕ) → Fresh capacity values (fresh-state capacity values)
+fresh-back capacity values = record {
+  state = refl;
+  stands = ap {B = SourceState}
+      (λ f. record { capacity = capacity; steps = 0; state = record { line = 1; values = λ i. getD values i 0; passes = f } })
+      (fun-ext λ d. all-zero state-passes d);
+}
+
+-- A run
+
 cells-of : (n : ℕ) (l : List ℕ) → length l ≡ n → cells n (λ i. getD l i 0) ≡ l
-cells-of n l e = sym (same-cells n l (λ i. getD l i 0) e (λ i h. refl))
+cells-of zero [] e = refl
+cells-of zero (x ∷ l) e = absurd (omega arith)
+cells-of (suc n) [] e = absurd (omega arith)
+cells-of (suc n) (x ∷ l) e = ap {B = List ℕ} (λ t. x ∷ t) (cells-of n l (omega arith))
 
 pub refused-back : (s : State) (x : Refusal) → HandsBack s (refused x) (record { state = s; ended = E.Refused x })
 unfolding ended-by state-by moved-by
 refused-back s x = record { ended = refl; state = refl; stands = refl }
+
+pub rule-9-back : (s : State) (budget : ℕ) (p : List Command) → is-source p (source-state s) ≡ false
+    → HandsBack s (run-from (source-state s) budget p) (record { state = s; ended = E.Refused (record { number = 9; place = 0 }) })
+unfolding run-from rule-9
+rule-9-back s budget p e = rw e (refused-back s (record { number = 9; place = 0 }))
 
 -- The state where a run stopped
 abbrev pub stopped : State → Stop → List ℕ → List ℕ → State

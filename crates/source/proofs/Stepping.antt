@@ -3,7 +3,7 @@ use mathlib.Core.Path.{_≡_, refl, sym, ap, _∙_, subst, fun-ext}
 use mathlib.Core.Bool.{Bool, true, false, cond}
 use mathlib.Core.Option.{none, some}
 use mathlib.Core.List.{List}
-use Prim.Native.Nat.{ℕ, zero, suc, pred, _+_, _-_, _≤_, _<_}
+use Prim.Native.Nat.{ℕ, zero, suc, pred, _+_, _-_, _*_, _≤_, _<_}
 use native.Mathlib.Numerals.{add-one}
 use native.Mathlib.Decide.{ℕ-discrete}
 use native.Mathlib.Omega.{arith}
@@ -19,17 +19,13 @@ use Rattle.theory.specs.Source as S
 use Rattle.theory.specs.Source.{State, set-variable, go-to, perform, end-loop, begin-loop, begin-while}
 use Rattle.theory.proofs.Cells.{put-cases}
 use Rattle.theory.proofs.Partners.{Known}
-use Rattle.source_state.specs.State.{stands}
-use Rattle.ready.specs.Tables.{entry-of}
-use Rattle.ready.specs.Lines.{Holds, decoded, command-at}
-use Rattle.ready.proofs.Program.{by-tests, kind-at, first-at, second-at, of-kind, here, kind-within, no-second, partner}
-use Rattle.ready.proofs.Program.{low-indices, depth-room}
-use Rattle.source.specs.Lines.{Filled, stored, led, Stepped}
+use Rattle.source.specs.Answers.{stands}
+use Rattle.source.specs.Lines.{Holds, decoded, command-at, entry-at, Jump, Reaches, Filled, stored, led, Stepped}
 use Rattle.source.specs.declared.steps.Stored.{Stored}
 use Rattle.source.specs.declared.steps.Stored.the-variants as Stored
 use Rattle.source.specs.declared.steps.Led.{Led}
 use Rattle.source.specs.declared.steps.Next.the-variants as N
-use Rattle.source.proofs.Filling.{Jump, Reaches, enters, jumps}
+use Rattle.source.proofs.Program.{here, kind-within, no-second, partner, low-indices, depth-room}
 
 -- Cells and lists
 
@@ -48,6 +44,12 @@ entered : (line : ℕ) (vs ps : List ℕ) (d k : ℕ) → d < length ps
 entered line vs ps d k h = ap {B = State} (λ f. record { line = line; values = λ i. getD vs i 0; passes = f }) (put-set ps d k h)
 
 -- Every command names its first index
+abbrev pub by-tests : ℕ → ℕ → Bool → Bool → Bool → Bool → Bool → Bool → Command
+by-tests i j a b c d e f =
+    cond a (plain (clear i))
+    (cond b (plain (increment i))
+    (cond c (plain (copy i j)) (cond d (opens loop i) (cond e (closes loop i) (cond f (opens while i) (closes while i))))))
+
 first-below : (k i j n : ℕ) → above (indices (decoded k i j)) ≤ n → i < n
 first-below k i j n = go (eqb k 1) (eqb k 2) (eqb k 3) (eqb k 4) (eqb k 5) (eqb k 6)
   where
@@ -59,6 +61,20 @@ first-below k i j n = go (eqb k 1) (eqb k 2) (eqb k 3) (eqb k 4) (eqb k 5) (eqb 
     go false false false false true f h = omega arith
     go false false false false false true h = omega arith
     go false false false false false false h = omega arith
+
+-- The numbers of line m, counted from 0, and what is known of them
+abbrev pub kind-at : List ℕ → ℕ → ℕ
+kind-at l m = getD l (3 * m) 0
+
+abbrev pub first-at : List ℕ → ℕ → ℕ
+first-at l m = getD l (3 * m + 1) 0
+
+abbrev pub second-at : List ℕ → ℕ → ℕ
+second-at l m = getD l (3 * m + 2) 0
+
+pub of-kind : (l : List ℕ) (m k : ℕ) → kind-at l m ≡ k → command-at l m ≡ decoded k (first-at l m) (second-at l m)
+unfolding command-at
+of-kind l m k e = rw e
 
 -- The kind is none of the first six
 pub of-last-kind : (l : List ℕ) (m : ℕ) → (kind-at l m ≡ 1 → ⊥) → (kind-at l m ≡ 2 → ⊥) → (kind-at l m ≡ 3 → ⊥) → (kind-at l m ≡ 4 → ⊥)
@@ -89,8 +105,9 @@ module _ (l : List ℕ) (h : Holds l) (m : ℕ) (inside : m < length (commands l
           omega arith
       go (no ne) = omega (arith, no-second l h m inside ne)
 
-  module _ (es : List ℕ) (fits : getD es m 0 ≡ entry-of (commands l) (suc m) (command-at l m)) where
+  module _ (es : List ℕ) (fits : getD es m 0 ≡ entry-at l m) where
     opening-entry : kind-at l m ≡ 4 → (getD es m 0 ≡ S.depth (commands l) (suc m)) × (getD es m 0 < state-passes)
+    unfolding entry-at
     opening-entry e =
         let same : getD es m 0 ≡ S.depth (commands l) (suc m) = rw (of-kind l m 4 e) at fits in
         let room : S.depth (commands l) (suc m) < state-passes =
@@ -98,6 +115,7 @@ module _ (l : List ℕ) (h : Holds l) (m : ℕ) (inside : m < length (commands l
         (same, omega arith)
 
     pub closing-entry : kind-at l m ≡ 5 → (getD es m 0 ≡ pred (S.depth (commands l) (suc m))) × (getD es m 0 < state-passes)
+    unfolding entry-at
     closing-entry e =
         let same : getD es m 0 ≡ pred (S.depth (commands l) (suc m)) = rw (of-kind l m 5 e) at fits in
         let pair : Known (commands l) (suc m) (closes loop (first-at l m)) = rw (of-kind l m 5 e) at (partner l h m inside) in
@@ -107,6 +125,7 @@ module _ (l : List ℕ) (h : Holds l) (m : ℕ) (inside : m < length (commands l
 
     -- The entry of a line of any pair is one of the passes-left
     pub pair-entry : 3 < kind-at l m → getD es m 0 < state-passes
+    unfolding entry-at
     pair-entry pair = go (ℕ-discrete (kind-at l m) 4) (ℕ-discrete (kind-at l m) 5) (ℕ-discrete (kind-at l m) 6)
       where
         go : Dec (kind-at l m ≡ 4) → Dec (kind-at l m ≡ 5) → Dec (kind-at l m ≡ 6) → getD es m 0 < state-passes
@@ -243,7 +262,7 @@ module _ (l : List ℕ) (h : Holds l) (capacity line : ℕ) (low : 0 < line) (hi
     from = omega arith
 
     jump : (c : Command) → command-at l m ≡ c → Reaches (commands l) line c t
-    jump c e = subst (λ n. Reaches (commands l) n c t) (sym from) (rw e at (jumps tables m inside))
+    jump c e = subst (λ n. Reaches (commands l) n c t) (sym from) (rw e at (tables .jumps m inside))
 
     goes-to : (goal : ℕ) (vs′ ps′ : List ℕ) → Jump (commands l) goal t
         → S.step (within capacity) (commands l) (stands line vs ps) ≡ some (stands goal vs′ ps′)
@@ -263,14 +282,14 @@ module _ (l : List ℕ) (h : Holds l) (capacity line : ℕ) (low : 0 < line) (hi
     loop-in e n b =
         let k : ℕ = getD vs (first-at l m) 0 in
         let entry : d ≡ S.depth (commands l) line =
-        opening-entry l h m inside es (enters tables m inside) e .0 ∙ ap (S.depth (commands l)) (sym from) in
+        opening-entry l h m inside es (tables .enters m inside) e .0 ∙ ap (S.depth (commands l)) (sym from) in
         goes-on vs (set ps d k)
         (performs (opens loop (first-at l m)) (of-kind l m 4 e)
         ∙ ap some (begun (commands l) (stands line vs ps) k n ∙ rw (← entry, add-one line) (entered (suc line) vs ps d k b)))
 
     -- `endloop`: the entry is that of the loop which the line closes
     closed-entry : kind-at l m ≡ 5 → pred (S.depth (commands l) line) ≡ d
-    closed-entry e = ap (λ n. pred (S.depth (commands l) n)) from ∙ sym (closing-entry l h m inside es (enters tables m inside) e .0)
+    closed-entry e = ap (λ n. pred (S.depth (commands l) n)) from ∙ sym (closing-entry l h m inside es (tables .enters m inside) e .0)
 
     loop-ends : kind-at l m ≡ 5 → getD ps d 0 ≤ 1 → d < length ps
         → Stepped (commands l) capacity line vs ps (N.At (line + 1)) vs (set ps d 0)

@@ -1,17 +1,37 @@
 -- What a run of a source hands back (document 01, "Machines of the set" and rule 9), as values of the crate's types.
 use mathlib.Core.Path.{_≡_}
-use Prim.Native.Nat.{_+_}
+use mathlib.Core.List.{List}
+use Prim.Native.Nat.{ℕ, _+_}
+use lib.ListN.{getD, replicate}
 use Rattle.theory.specs.Basics.{cells}
 use Rattle.theory.specs.Limits.{state-values, state-passes}
 use Rattle.theory.specs.Runs.{Outcome}
 use Rattle.theory.specs.Source as S
-use Rattle.theory.specs.Machines.{SourceState}
+use Rattle.theory.specs.Machines.{SourceState, fresh-source}
 use Rattle.theory.specs.TurnedDown.{Answer, done, refused}
-use Rattle.source_state.specs.State.{source-state}
-use Rattle.source_state.specs.declared.State.{State}
+use Rattle.source.specs.declared.answers.State.{State}
 use Rattle.source.specs.declared.answers.Run.{Run}
 use Rattle.source.specs.declared.answers.Ended.{Ended}
 use Rattle.source.specs.declared.answers.Ended.the-variants as E
+
+-- A line, values and passes left, as the definitions have them: past the end of a list stands 0
+abbrev pub stands : ℕ → List ℕ → List ℕ → S.State
+stands line values passes = record { line = line; values = λ i. getD values i 0; passes = λ d. getD passes d 0 }
+
+abbrev pub source-state : State → SourceState
+source-state s = record { capacity = s .capacity; steps = s .steps; state = stands (s .line) (s .values) (s .passes) }
+
+-- "A fresh state has line or place 1, no steps and passes-left all 0"
+abbrev pub fresh-state : ℕ → List ℕ → State
+fresh-state capacity values = record { capacity = capacity; line = 1; steps = 0; values = values; passes = replicate state-passes 0 }
+
+-- The same, as the definitions have it
+abbrev pub fresh-from : ℕ → List ℕ → SourceState
+fresh-from capacity values = record { capacity = capacity; steps = 0; state = fresh-source (λ i. getD values i 0) }
+
+pub record Fresh (capacity : ℕ) (values : List ℕ) (r : State) : Type 0 where
+  pub state : r ≡ fresh-state capacity values
+  pub stands : source-state r ≡ fresh-from capacity values
 
 -- How it ended
 unfoldable pub ended-by : Answer (Outcome S.State) → Ended

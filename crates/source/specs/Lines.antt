@@ -1,21 +1,19 @@
--- What the private functions of this crate say of the tables of a run, of a step and of a run.
+-- What the private functions of this crate say of the lines of a list, of the tables filled for a run, of a step, of a run and of rule 9.
 use mathlib.Core.Path.{_≡_}
-use mathlib.Core.Bool.{true, cond}
+use mathlib.Core.Bool.{Bool, cond}
 use mathlib.Core.Option.{Option, none, some}
 use mathlib.Core.List.{List}
-use Prim.Native.Nat.{ℕ, suc, _+_, _-_, _≤_, _<_}
-use lib.ListN.{length}
+use Prim.Native.Nat.{ℕ, suc, pred, _+_, _-_, _*_, _≤_, _<_}
+use lib.ListN.{length, getD}
 use lib.Dec.{eqb, leb}
 use Rattle.theory.specs.Limits.{state-values, state-passes}
-use Rattle.theory.specs.ProgramText.{Command, commands}
+use Rattle.theory.specs.Basics.{all-below}
+use Rattle.theory.specs.ProgramText.{Command, plain, clear, increment, copy, opens, closes, loop, while, list-of, variables, commands}
 use Rattle.theory.specs.Runs.{Machine, Outcome, run, within}
 use Rattle.theory.specs.Source as S
-use Rattle.theory.specs.TurnedDown.{is-source}
-use Rattle.source_state.specs.State.{stands, source-state}
-use Rattle.source_state.specs.declared.State.{State}
-use Rattle.ready.specs.Lines.{Holds}
-use Rattle.ready.specs.Tables.{target-of, entry-of, table}
-use Rattle.ready.specs.declared.Ready.{Ready}
+use Rattle.theory.specs.TurnedDown.{is-value, is-passes}
+use Rattle.theory.specs.Claims.{Accepted}
+use Rattle.source.specs.Answers.{stands}
 use Rattle.source.specs.declared.steps.Stored.{Stored}
 use Rattle.source.specs.declared.steps.Stored.the-variants as Stored
 use Rattle.source.specs.declared.steps.Led.{Led}
@@ -23,17 +21,76 @@ use Rattle.source.specs.declared.steps.Next.{Next}
 use Rattle.source.specs.declared.steps.Next.the-variants as N
 use Rattle.source.specs.declared.steps.Stop.{Stop}
 
--- The list holds an accepted program, and the tables are its own
+-- The list holds an accepted program, and nothing else
+pub record Holds (l : List ℕ) : Type 0 where
+  pub whole : list-of (commands l) ≡ l
+  pub accepted : Accepted (commands l)
+
+-- A list that holds a program of so many lines and variables
+pub record Given (l : List ℕ) (lines K : ℕ) : Type 0 where
+  pub holds : Holds l
+  pub lines-are : lines ≡ length (commands l)
+  pub variables-are : K ≡ variables (commands l)
+
+-- The command of three numbers, of which the first is a kind, 1 to 7
+abbrev pub decoded : ℕ → ℕ → ℕ → Command
+decoded k i j =
+    cond (eqb k 1) (plain (clear i))
+    (cond (eqb k 2) (plain (increment i))
+    (cond (eqb k 3) (plain (copy i j))
+    (cond (eqb k 4) (opens loop i)
+    (cond (eqb k 5) (closes loop i)
+    (cond (eqb k 6) (opens while i)
+    (closes while i))))))
+
+-- The command at a line, the lines counted from 0
+unfoldable pub command-at : List ℕ → ℕ → Command
+command-at l m = decoded (getD l (3 * m) 0) (getD l (3 * m + 1) 0) (getD l (3 * m + 2) 0)
+
+-- Entries of the passes-left
+
+-- At a line around which there are d loops: the entry of the loop that the line opens is d, of the one that it closes d - 1
+abbrev pub entry-of : Command → ℕ → ℕ
+entry-of (plain c) d = d
+entry-of (opens k i) d = d
+entry-of (closes loop i) d = pred d
+entry-of (closes while i) d = d
+
+unfoldable pub entry-at : List ℕ → ℕ → ℕ
+entry-at l m = entry-of (command-at l m) (S.depth (commands l) (suc m))
+
+-- Targets: the line to which a step jumps where it does not go to the next one
+
+pub record Jump (p : List Command) (goal t : ℕ) : Type 0 where
+  pub to : t ≡ goal
+  pub low : 0 < t
+  pub high : t ≤ suc (length p)
+
+unfoldable pub Reaches : List Command → ℕ → Command → ℕ → Type 0
+Reaches p n (plain c) t = Unit {0}
+Reaches p n (opens k i) t = Jump p (suc (S.closing p n)) t
+Reaches p n (closes loop i) t = Jump p (suc (S.opening p n)) t
+Reaches p n (closes while i) t = Jump p (S.opening p n) t
+
+-- The tables are filled for every line
+abbrev pub Entered : List ℕ → List ℕ → Type 0
+Entered l entries = (m : ℕ) → m < length (commands l) → getD entries m 0 ≡ entry-at l m
+
+abbrev pub Linked : List ℕ → List ℕ → Type 0
+Linked l targets = (m : ℕ) → m < length (commands l) → Reaches (commands l) (suc m) (command-at l m) (getD targets m 0)
+
 pub record Filled (l targets entries : List ℕ) : Type 0 where
   pub holds : Holds l
-  pub targets-are : targets ≡ table (target-of (commands l)) (commands l)
-  pub entries-are : entries ≡ table (entry-of (commands l)) (commands l)
+  pub jumps : Linked l targets
+  pub enters : Entered l entries
+  pub targets-room : length (commands l) ≤ length targets
+  pub entries-room : length (commands l) ≤ length entries
 
--- A program of so many lines that is ready for a run from the state
-pub record Prepared (l : List ℕ) (lines : ℕ) (r : Ready) (s : State) : Type 0 where
-  pub filled : Filled l (r .targets) (r .entries)
+-- A list that holds a program of so many lines, with tables that have room for them
+pub record Fits (l : List ℕ) (lines : ℕ) (table : List ℕ) : Type 0 where
+  pub holds : Holds l
   pub lines-are : lines ≡ length (commands l)
-  pub good : is-source (commands l) (source-state s) ≡ true
+  pub room : lines ≤ length table
 
 -- A step
 
@@ -53,7 +110,7 @@ led k held left next target =
     (record { line = target; left = left })))
 
 -- The tables are filled, the line is one of the program, and the lists are those of a state
-pub record Standing (l targets entries : List ℕ) (line : ℕ) (vs ps : List ℕ) : Type 0 where
+pub record Ready (l targets entries : List ℕ) (line : ℕ) (vs ps : List ℕ) : Type 0 where
   pub filled : Filled l targets entries
   pub low : 0 < line
   pub high : line ≤ length (commands l)
@@ -101,3 +158,20 @@ run-at l capacity line vs ps allowed = run (machine-of l capacity) allowed 0 (st
 -- How it ended, the steps taken, and the state
 abbrev pub outcome-of : Stop → List ℕ → List ℕ → Outcome S.State
 outcome-of r vs ps = record { end = r .end; steps = r .taken; state = stands (r .line) vs ps }
+
+-- Rule 9
+
+unfoldable pub all-values : ℕ → ℕ → List ℕ → Bool
+all-values capacity K vs = all-below state-values (λ i. is-value capacity K i (getD vs i 0))
+
+unfoldable pub all-passes : ℕ → ℕ → List ℕ → Bool
+all-passes capacity D ps = all-below state-passes (λ d. is-passes capacity D d (getD ps d 0))
+
+-- A line of the program, or the line after its last, where the entries are filled
+pub record Deep (l entries : List ℕ) (lines line : ℕ) : Type 0 where
+  pub holds : Holds l
+  pub enters : Entered l entries
+  pub room : length (commands l) ≤ length entries
+  pub lines-are : lines ≡ length (commands l)
+  pub low : 0 < line
+  pub high : line ≤ suc (length (commands l))

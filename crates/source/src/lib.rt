@@ -1,22 +1,29 @@
 // The source interpreter of document 01 ("The program text", "Machines of the set"): a program, as text or as a list of three numbers a
 // command, run from a state with a budget. Rules 1 to 8 (3 to 8 for a list), then 9.
-mod answers; // answers.rt: what a run hands back
+mod answers; // answers.rt: the public types
+mod lines; // lines.rt: where the lines of pairs lead
+mod rule9; // rule9.rt: whether a state is one of the program's
 mod steps; // steps.rt: a step, and the steps of a run
 
 pub use answers::Ended;
 pub use answers::Run;
-pub use source_state::State;
+pub use answers::State;
 ghost use mathlib.Core.Path.{_≡_};
 ghost use Prim.Native.Nat.{min};
 ghost use Rattle.theory.specs.TurnedDown.{read-text, read-list, run-from, run-program};
 ghost use Rattle.theory.specs.ProgramText.{commands};
-ghost use Rattle.source_state.specs.State.{source-state};
-ghost use Rattle.source.specs.Answers.{HandsBack};
-ghost use Rattle.source.specs.Lines.{Prepared};
+ghost use Rattle.source.specs.Answers.{source-state, HandsBack};
+ghost use Rattle.source.specs.Lines.{Given};
 use crate::answers::refused;
 use program::Checked;
 use program::Program;
-use ready::Ready;
+use theory::Refusal;
+
+// Rule 9.
+const NONE_OF_ITS_STATES: Refusal = Refusal {
+    number: 9,
+    place: 0,
+};
 
 // The lesser of two numbers.
 fn least(a: u32, b: u32) -> u32
@@ -25,13 +32,18 @@ fn least(a: u32, b: u32) -> u32
     if a < b { a } else { b }
 }
 
-// A run of a program that is ready for it.
-fn run_ready(list: &[u8], lines: usize, ready: Ready, state: State, budget: u32) -> Run
-    requires { ⌜ Prepared (now list) lines ready state ⌝ }
+// A run of an accepted program: rule 9, and then the steps. Targets and entries are found here, once for the run.
+fn run_accepted(list: &[u8], lines: usize, variables: usize, state: State, budget: u32) -> Run
+    requires { ⌜ Given (now list) lines variables ⌝ }
     ensures { λ r. ⌜ HandsBack state (run-from (source-state state) budget (commands (now (list .entry)))) r ⌝ }
 {
-    let targets = ready.targets;
-    let entries = ready.entries;
+    let mut targets = [0u16; Program::LINES];
+    let mut entries = [0u8; Program::LINES];
+    lines::fill_targets(list, lines, &mut targets);
+    lines::fill_entries(list, lines, &mut entries);
+    if !rule9::is_source(list, &entries, lines, variables, state) {
+        return refused(state, NONE_OF_ITS_STATES);
+    }
     let mut values = state.values;
     let mut passes = state.passes;
     let allowed = least(budget, State::STEPS - state.steps);
@@ -65,10 +77,8 @@ fn run_ready(list: &[u8], lines: usize, ready: Ready, state: State, budget: u32)
 pub fn run_list(list: &[u8], state: State, budget: u32) -> Run
     ensures { λ r. ⌜ HandsBack state (run-program (read-list (now (list .entry))) (source-state state) budget) r ⌝ }
 {
-    let ready = ready::ready_list(list, state);
-    let checked = ready.checked;
-    match checked {
-        Checked::Accepted(p) => run_ready(list, p.lines, ready, state, budget),
+    match program::check_list(list) {
+        Checked::Accepted(p) => run_accepted(list, p.lines, p.variables, state, budget),
         Checked::Refused(refusal) => refused(state, refusal),
     }
 }
@@ -78,12 +88,10 @@ pub fn run_text(text: &[u8], state: State, budget: u32) -> Run
     ensures { λ r. ⌜ HandsBack state (run-program (read-text (now (text .entry))) (source-state state) budget) r ⌝ }
 {
     let mut list = [0u8; Program::NUMBERS];
-    let ready = ready::ready_text(text, &mut list, state);
-    let checked = ready.checked;
-    match checked {
+    match program::read(text, &mut list) {
         Checked::Accepted(p) => {
             let numbers = 3 * p.lines;
-            run_ready(&list[..numbers], p.lines, ready, state, budget)
+            run_accepted(&list[..numbers], p.lines, p.variables, state, budget)
         }
         Checked::Refused(refusal) => refused(state, refusal),
     }

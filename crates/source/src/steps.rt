@@ -7,7 +7,7 @@ use command::LOOP;
 use command::WHILE;
 use theory::End;
 ghost use mathlib.Core.Path.{_≡_};
-ghost use Rattle.source.specs.Lines.{stored, led, Standing, Stepped, Startable, run-at, outcome-of};
+ghost use Rattle.source.specs.Lines.{stored, led, Ready, Stepped, Startable, run-at, outcome-of};
 ghost use Rattle.theory.specs.ProgramText.{commands};
 
 // What a plain command stores in its variable; or the step would be full.
@@ -106,7 +106,7 @@ fn step(
     values: &mut [u32],
     passes: &mut [u32],
 ) -> Next
-    requires { ⌜ Standing (now list) (now targets) (now entries) line (now values) (now passes) ⌝ }
+    requires { ⌜ Ready (now list) (now targets) (now entries) line (now values) (now passes) ⌝ }
     ensures { λ r. ⌜
         Stepped (commands (now (list .entry))) capacity line
         (now (values .entry)) (now (passes .entry)) r (now (values .exit)) (now (passes .exit))

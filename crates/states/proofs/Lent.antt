@@ -15,9 +15,8 @@ use Rattle.theory.specs.Source as S
 use Rattle.theory.specs.Machines.{SourceState}
 use Rattle.theory.specs.TurnedDown.{Answer, done, refused, after, rule-9, is-source, run-from}
 use Rattle.theory.proofs.GoodMemory.{length-cells}
-use Rattle.source_state.specs.State.{source-state, fresh-state}
-use Rattle.source.specs.Answers.{HandsBack, ended-by, state-by, moved-by}
-use Rattle.source_state.specs.declared.State.{State}
+use Rattle.source.specs.Answers.{HandsBack, source-state, fresh-state, ended-by, state-by, moved-by}
+use Rattle.source.specs.declared.answers.State.{State}
 use Rattle.source.specs.declared.answers.Run.{Run}
 use Rattle.states.specs.Numbers.{state-numbers, state-of, numbers-of, run-numbers, numbers-by, RunsLent}
 use Rattle.states.specs.Numbers.{lent-state, kept-numbers}

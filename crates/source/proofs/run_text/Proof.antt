@@ -1,112 +1,110 @@
--- `run_text` hands back what the definitions give: the text is read into a buffer that has room for any program, and one that is ready is
+-- `run_text` hands back what the definitions give: the text is read into a buffer that has room for any program, and an accepted one is
 -- run from there. Assumes nothing.
-use mathlib.Core.Path.{_≡_, refl, sym}
+use mathlib.Core.Path.{_≡_, refl, sym, ap, _∙_}
 use mathlib.Core.List.{List}
 use Prim.Native.Nat.{ℕ, _*_, _≤_}
 use native.Mathlib.Omega.{arith}
 use borrow.Author.Needs.{needs}
 use lib.ListN.{length, take, replicate}
 use lib.Seq.{length-take-le}
-use Rattle.theory.specs.TurnedDown.{read-program-into}
+use Rattle.theory.specs.TurnedDown.{read-text}
 use Rattle.theory.specs.ProgramText.{commands}
+use Rattle.list.specs.Answers.{checked}
 use Rattle.list.specs.declared.Program.{Program}
-use Rattle.ready.proofs.Reading.{AcceptedAs, buffer-read, numbers-few, numbers-within, text-given, text-program}
+use Rattle.source.specs.Lines.{Given}
 use Rattle.source.proofs.Results.{refused-back}
-use Rattle.source.proofs.Readiness as readiness
+use Rattle.source.proofs.Reading.{AcceptedAs, accepted-as, refused-as, buffer-read, numbers-few, text-given, text-program}
 use Rattle.source.proofs.run_text.Statement.{statement}
 use Rattle.source.proofs.run_text.Tie as tie
 
 abbrev buffer : List ℕ
 buffer = replicate 1536 0
 
--- Of a text that is ready: its numbers lie within the buffer, and hold the program
-module _ (c : tie.After-checked) where
-  abbrev call : tie.After-ready-text
-  call = c .before .before .before
+-- What `read` said is what the definition says of the text
+said : (c : tie.After-read) → c .read .result ≡ checked (read-text (c .before .before .before .args .text .now))
+said c = c .read .ensures .0 ∙ ap checked (buffer-read buffer (c .before .before .before .args .text .now) refl)
 
-  abbrev start : tie.Start
-  start = call .before .before .before
-
+-- Of an accepted text: its numbers lie within the buffer, and hold the program
+module _ (c : tie.After-p) where
   abbrev text : List ℕ
-  text = start .args .text .now
+  text = c .before .before .before .before .before .before .args .text .now
 
-  abbrev x : Program
-  x = c .checked .given .0 .0
+  abbrev answered : Program
+  answered = c .p .given .0 .0
 
   abbrev last : List ℕ
-  last = call .ready-text .last .1 .0
+  last = c .before .before .before .read .last .1 .0
 
-  accepted : AcceptedAs (read-program-into buffer text) x
-  accepted =
-      readiness.accepted (read-program-into buffer text) (start .args .state) _ (call .ready-text .ensures .0) x (c .checked .given .1)
+  accepted : AcceptedAs (read-text text) answered
+  accepted = accepted-as (read-text text) answered (sym (said (c .before .before .before)) ∙ c .p .given .1)
 
-  few : 3 * x .lines ≤ 1536
-  few = numbers-few buffer text x accepted last (call .ready-text .ensures .1)
+  within : 3 * answered .lines ≤ 1536
+  within = numbers-few buffer text refl answered accepted last (c .before .before .before .read .ensures .1)
 
-  room : 3 * x .lines ≤ length last
-  room = numbers-within buffer text x accepted last (call .ready-text .ensures .1)
+  room : 3 * answered .lines ≤ length last
+  room = omega (arith, within, c .before .before .before .read .kept .1 .0)
 
-  held : commands (take (3 * x .lines) last) ≡ accepted .commands
-  held = text-program buffer text x accepted last (call .ready-text .ensures .1)
+  given : Given (take (3 * answered .lines) last) (answered .lines) (answered .variables)
+  given = text-given buffer text refl answered accepted last (c .before .before .before .read .ensures .1)
 
-slice-aggregate-ready-text : tie.Need-slice-aggregate-ready-text
-slice-aggregate-ready-text c = search needs
+  held : commands (take (3 * answered .lines) last) ≡ accepted .commands
+  held = text-program buffer text refl answered accepted last (c .before .before .before .read .ensures .1)
 
-ready-text-requires : tie.Need-ready-text-requires
-ready-text-requires c κs = search needs
+slice-aggregate-read : tie.Need-slice-aggregate-read
+slice-aggregate-read c = search needs
 
-enum-known-checked : tie.Need-enum-known-checked
-enum-known-checked c = search needs
+read-requires : tie.Need-read-requires
+read-requires c κs = search needs
+
+enum-known-p : tie.Need-enum-known-p
+enum-known-p c = search needs
 
 mul-numbers : tie.Need-mul-numbers
-mul-numbers c = omega (arith, few (c .before .before))
+mul-numbers c = omega (arith, within (c .before .before))
 
 array-share-prefix-list : tie.Need-array-share-prefix-list
 array-share-prefix-list c = room (c .before .before)
 
-slice-aggregate-run-ready : tie.Need-slice-aggregate-run-ready
-slice-aggregate-run-ready c = sym (length-take-le _ _ (room (c .before .before .before)))
+slice-aggregate-run-accepted : tie.Need-slice-aggregate-run-accepted
+slice-aggregate-run-accepted c = sym (length-take-le _ _ (room (c .before .before .before)))
 
-run-ready-requires : tie.Need-run-ready-requires
-unfolding accepted
-run-ready-requires c κs =
-    let p : tie.After-checked = c .before .before .before in
-    let given : _ = text-given buffer (text p) (x p) (accepted p) (last p) (call p .ready-text .ensures .1) in
-    readiness.prepared (read-program-into buffer (text p)) (start p .args .state) _ (call p .ready-text .ensures .0) (x p)
-    (p .checked .given .1) _ (given .holds) (held p)
+run-accepted-requires : tie.Need-run-accepted-requires
+run-accepted-requires c κs = given (c .before .before .before)
 
-enum-known-checked-2 : tie.Need-enum-known-checked-2
-enum-known-checked-2 c = search needs
+enum-known-refusal : tie.Need-enum-known-refusal
+enum-known-refusal c = search needs
 
 refused-requires : tie.Need-refused-requires
 refused-requires c κs = search needs
 
 returns : tie.Need-returns
 returns c =
-    let p : tie.After-checked = c .before .before .before .before in
-    rw (← buffer-read buffer (text p) refl, accepted p .is-done, ← held p) (c .run-ready .ensures)
+    let at : tie.After-p = c .before .before .before .before in
+    rw (accepted at .is-done, ← held at) (c .run-accepted .ensures)
 
 returns-2 : tie.Need-returns-2
 returns-2 c =
-    let told : tie.After-checked2 = c .before .before in
-    let call : tie.After-ready-text = told .before .before .before in
-    let s : tie.Start = call .before .before .before in
-    let so : _ = readiness.refused-run (read-program-into buffer (s .args .text .now)) (s .args .state) _ (call .ready-text .ensures .0)
-    (told .checked2 .given .0 .0) (s .args .budget) (told .checked2 .given .1) in
-    rw (c .refused .ensures, ← buffer-read buffer (s .args .text .now) refl, so) (refused-back _ _)
+    let told : tie.After-refusal = c .before .before in
+    let call : tie.After-read = told .before .before .before in
+    let answer : _ = sym (said call) ∙ told .refusal .given .1 in
+    rw (
+      c .refused .ensures,
+      refused-as (read-text (call .before .before .before .args .text .now)) (told .refusal .given .0 .0) answer,
+    )
+    (refused-back _ _)
 
 pub run-text-spec : {M : Type 1} → statement M
 run-text-spec =
     tie.close
     (tie.spec
-    slice-aggregate-ready-text
-    ready-text-requires
-    enum-known-checked
+    slice-aggregate-read
+    read-requires
+    enum-known-p
     mul-numbers
     array-share-prefix-list
-    slice-aggregate-run-ready
-    run-ready-requires
-    enum-known-checked-2
+    slice-aggregate-run-accepted
+    run-accepted-requires
+    enum-known-refusal
     refused-requires
     returns
     returns-2)

@@ -2,9 +2,8 @@
 use mathlib.Core.Path.{subst}
 use borrow.Author.Needs.{needs}
 use Rattle.theory.specs.TurnedDown.{after, read-list, run-from}
-use Rattle.source_state.specs.State.{source-state}
-use Rattle.source.specs.Answers.{HandsBack}
-use Rattle.source_state.specs.declared.State.{State}
+use Rattle.source.specs.Answers.{source-state, HandsBack}
+use Rattle.source.specs.declared.answers.State.{State}
 use Rattle.report.proofs.Called.{row-ran}
 use Rattle.report.proofs.rows.run_row.Statement.{statement}
 use Rattle.report.proofs.rows.run_row.Tie as tie

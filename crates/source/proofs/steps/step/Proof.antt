@@ -4,7 +4,7 @@ use Prim.Native.Nat.{ℕ, _-_, _<_}
 use native.Mathlib.Omega.{arith}
 use borrow.Author.Needs.{needs}
 use lib.ListN.{length, getD}
-use Rattle.source.specs.Lines.{Standing}
+use Rattle.source.specs.Lines.{Ready}
 use Rattle.source.proofs.Bounds.{few, numbers-in, target-in, entry-in, first-in, second-in, pair-in}
 use Rattle.source.proofs.Stepping.{stores, leads}
 use Rattle.source.proofs.steps.step.Statement.{statement}
@@ -14,7 +14,7 @@ abbrev start : tie.After-slice-known2 → tie.Start
 start c = c .before .before .before .before .before
 
 ready : (c : tie.After-slice-known2)
-    → Standing (start c .args .list .now) (start c .args .targets .now) (start c .args .entries .now) (start c .args .line)
+    → Ready (start c .args .list .now) (start c .args .targets .now) (start c .args .entries .now) (start c .args .line)
     (start c .args .values .now) (start c .args .passes .now)
 ready c = start c .pre
 

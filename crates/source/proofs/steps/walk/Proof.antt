@@ -5,7 +5,7 @@ use Prim.Native.Nat.{_≤_, _-_}
 use native.Mathlib.Omega.{arith}
 use lib.ListN.{length}
 use Rattle.source.specs.Lines.{run-at}
-use Rattle.ready.proofs.Program.{few-lines}
+use Rattle.source.proofs.Program.{few-lines}
 use Rattle.source.proofs.Underway.{Going, going-start, going-halted, going-spent, going-full, going-on}
 use Rattle.source.proofs.steps.walk.Statement.{statement}
 use Rattle.source.proofs.steps.walk.Tie as tie

@@ -1,0 +1,10 @@
+-- `State::fresh` makes the fresh state of document 01. Assumes nothing.
+use Rattle.source.proofs.Results.{fresh-back}
+use Rattle.source.proofs.answers.State.fresh.Statement.{statement}
+use Rattle.source.proofs.answers.State.fresh.Tie as tie
+
+returns : tie.Need-returns
+returns c = fresh-back _ _
+
+pub fresh-spec : {M : Type 1} → statement M
+fresh-spec = tie.close (tie.spec returns)
