@@ -18,7 +18,7 @@ Hold = EachOf Holds
 pub largest-hold : LargestHold
 unfolding largest texts words tables sheets reports put
     T.following T.same T.digits T.value-after T.numeral T.name T.split-lines T.ends-in-LF T.split-blanks P.around P.assigns P.command
-    D.rule-1 D.rule-2 D.rule-3 D.lines-fault D.program-fault D.text-fault D.read-text W.entries
+    D.rule-1 D.rule-2 D.rule-3 D.lines-fault-under D.program-fault-under D.text-fault-under D.read-text-under W.entries
     D.rule-11 D.first-failing D.rule-12 D.first-along D.rule-13 D.rule-14 D.rule-15 D.word-fault D.read-word D.read-word-for
     D.table-rule-11 D.table-fault D.read-table H.names H.values H.start D.sheet-size-fault D.rows-fault D.sheet-fault
     T.decimal-before T.decimal T.name-of P.spelling P.blocks P.block-of W.spell-entries W.spell X.code X.word X.word-of X.word-text

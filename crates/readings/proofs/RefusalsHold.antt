@@ -19,7 +19,7 @@ Hold = EachOf Holds
 pub refusals-hold : EachOf (EachOf Holds) refusals
 unfolding refusals limits texts spellings almost pairs lists words tables machines places states memories layouts sheets named lines
     T.following T.same T.digits T.value-after T.numeral T.name T.split-lines T.ends-in-LF T.split-blanks P.around P.assigns P.command
-    D.rule-1 D.rule-2 D.rule-3 D.lines-fault D.program-fault D.text-fault D.read-text P.listed P.command-of P.commands D.read-list W.entries
+    D.rule-1 D.rule-2 D.rule-3 D.lines-fault-under D.program-fault-under D.text-fault-under D.read-text-under P.listed P.command-of P.commands D.read-list-under W.entries
     D.rule-11 D.first-failing D.rule-12 D.first-along D.rule-13 D.rule-14 D.rule-15 D.word-fault D.read-word D.read-word-for S.open-at
     S.depth D.is-source D.rule-9 M.is-memory D.rule-10 D.table-rule-11
     D.table-fault D.read-table D.read-table-for H.names H.values H.start D.sheet-size-fault D.rows-fault D.sheet-fault

@@ -1,4 +1,5 @@
 pub mod Nesting
+pub mod Settings
 pub mod Sizes
 pub mod Lists
 pub mod Budgets

@@ -9,7 +9,7 @@ use borrow.Author.Tests.{eqb-true}
 use Rattle.theory.specs.Basics.{present}
 use Rattle.theory.specs.ProgramText.{clear, increment, copy, loop, while, Command, plain, opens, closes, commands}
 use Rattle.theory.specs.ProgramText.{numbers, list-of, command-of-kind, command-of, listed}
-use Rattle.theory.specs.TurnedDown.{done, read-list}
+use Rattle.theory.specs.TurnedDown.{done, read-list, read-list-under}
 use Rattle.theory.specs.Claims.{Accepted, ListRoundTrip}
 use Rattle.theory.proofs.Nesting.{nothing-missing, list-read}
 
@@ -82,7 +82,7 @@ list-listed (k ∷ i ∷ j ∷ l) (c ∷ p) e =
     rw (numbers-of k i j c first, list-listed l p rest)
 
 pub lists-round-trip : ListRoundTrip
-unfolding read-list commands
+unfolding read-list-under commands
 lists-round-trip = (there, back)
   where
     there : (p : List Command) → Accepted p → read-list (list-of p) ≡ done p

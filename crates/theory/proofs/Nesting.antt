@@ -16,6 +16,7 @@ use Rattle.theory.specs.ProgramText.{Plain, Kind, loop, while, Command, 
 use Rattle.theory.specs.ProgramText.{Block, empty, single, pair, lines, Blocks, opened-by, blocks, block-of, Opening}
 use Rattle.theory.specs.TurnedDown.{done, unless, rule-1, rule-2, rule-3, same-kind, pair-fault, line-fault, open-past}
 use Rattle.theory.specs.TurnedDown.{lines-fault, program-fault, text-lines, text-fault, read-text, read-list}
+use Rattle.theory.specs.TurnedDown.{lines-fault-under, program-fault-under, text-fault-under, read-text-under, read-list-under}
 use Rattle.theory.specs.Claims.{Accepted, ReadsAccepted, WellNested}
 use Rattle.theory.specs.declared.Refusal.{Refusal}
 use Rattle.theory.specs.ProgramText.{commands}
@@ -54,17 +55,17 @@ matching n o os k i e =
 -- The first line has no fault, and the others have none under the pairs that are then open
 pub first-line : (n : ℕ) (os : List Opening) (c : Option Command) (l : List (Option Command)) → lines-fault n os (c ∷ l) ≡ none
     → line-fault n os c ≡ none
-unfolding lines-fault
+unfolding lines-fault-under
 first-line n os c l e = none-first (line-fault n os c) (lines-fault (suc n) (open-past n os c) l) e
 
 pub next-lines : (n : ℕ) (os : List Opening) (c : Option Command) (l : List (Option Command)) → lines-fault n os (c ∷ l) ≡ none
     → lines-fault (suc n) (open-past n os c) l ≡ none
-unfolding lines-fault
+unfolding lines-fault-under
 next-lines n os c l e = none-second (line-fault n os c) (lines-fault (suc n) (open-past n os c) l) e
 
 -- Rules 3 to 8 are rule 3 and the lines' rules
 pub faultless : (l : List (Option Command)) → program-fault l ≡ none → (length l ≤ Limits.most-lines) × (lines-fault 1 [] l ≡ none)
-unfolding program-fault rule-3
+unfolding program-fault-under rule-3
 faultless l e =
     let few : Bool = leb (length l) Limits.most-lines in
     let t : few ≡ true = unless-none few 3 (suc Limits.most-lines) (none-first (rule-3 l) (lines-fault 1 [] l) e) in
@@ -78,7 +79,7 @@ pub sound : (p : List Command) → Accepted p → lines-fault 1 [] (map some p) 
 sound p a = faultless (map some p) a .1
 
 pub accepts : (p : List Command) → length p ≤ Limits.most-lines → lines-fault 1 [] (map some p) ≡ none → Accepted p
-unfolding program-fault rule-3
+unfolding program-fault-under rule-3
 accepts p l e =
     let few : length (map some p) ≤ Limits.most-lines = omega (arith, length-map p some) in
     neither (rule-3 (map some p)) (lines-fault 1 [] (map some p)) (rw (le-leb (length (map some p)) Limits.most-lines few)) e
@@ -128,15 +129,15 @@ present-accepted l p e h = rw (← h, nothing-missing l e) e
 
 -- What a text or a list is read as, and that its lines have no fault
 pub text-read : (t : Bytes) (p : List Command) → read-text t ≡ done p → (text-fault t ≡ none) × (present (text-lines t) ≡ p)
-unfolding read-text
+unfolding read-text-under
 text-read t p e = answer-done (text-fault t) (present (text-lines t)) p e
 
 pub list-read : (l : List ℕ) (p : List Command) → read-list l ≡ done p → (program-fault (listed l) ≡ none) × (present (listed l) ≡ p)
-unfolding read-list commands
+unfolding read-list-under commands
 list-read l p e = answer-done (program-fault (listed l)) (present (listed l)) p e
 
 pub text-sound : (t : Bytes) → text-fault t ≡ none → program-fault (text-lines t) ≡ none
-unfolding text-fault
+unfolding text-fault-under
 text-sound t e =
     let rest : Option Refusal = program-fault (text-lines t) in
     none-second (rule-2 t) rest (none-second (rule-1 t) (or-else (rule-2 t) rest) e)
@@ -183,7 +184,7 @@ joins-open k i n p os b [] l e = absurd (omega arith)
 joins-open k i n p os b (b′ ∷ bs) l e = (omega arith, joined-pair os k i b b′ bs ∙ ap {B = List Command} (λ r. opens k i ∷ r) e)
 
 joins : (p : List Command) (n : ℕ) (os : List Opening) → lines-fault n os (map some p) ≡ none → Joins os p (blocks p)
-unfolding Joins joined blocks lines-fault
+unfolding Joins joined blocks lines-fault-under
 joins [] n [] e = (refl, refl)
 joins [] n (o ∷ os) e = absurd (Option·none-ne-some _ (sym e))
 joins (plain c ∷ p) n os e =

@@ -16,7 +16,7 @@ use Rattle.theory.specs.Text.{onto-first, split-lines, ends-in-LF}
 use Rattle.theory.specs.ProgramText.{clear, increment, copy, loop, while, Command, plain, opens, closes}
 use Rattle.theory.specs.ProgramText.{spelling, text-of, around, assigns, command}
 use Rattle.theory.specs.TurnedDown.{done, rule-1, rule-2}
-use Rattle.theory.specs.TurnedDown.{text-lines, text-fault, read-text}
+use Rattle.theory.specs.TurnedDown.{text-lines, text-fault, text-fault-under, read-text, read-text-under}
 use Rattle.theory.specs.Claims.{Accepted, TextRoundTrip}
 use Rattle.theory.proofs.Faults.{none-first, none-second, and-then-some, given-some, unless-none, and-first, and-second}
 use Rattle.theory.proofs.Nesting.{LowIndices, low, short, nothing-missing, text-read, text-sound}
@@ -270,7 +270,7 @@ text-short (c ∷ p) h =
 
 -- The text of an accepted program is read
 pub text-accepted : (p : List Command) → Accepted p → text-fault (text-of p) ≡ none
-unfolding text-fault rule-1 rule-2
+unfolding text-fault-under rule-1 rule-2
 text-accepted p h =
     let fits : length (text-of p) ≤ Limits.most-bytes = omega (arith, text-short p (low p h), short p h) in
     rw (le-leb (length (text-of p)) Limits.most-bytes fits, text-ended p, text-lines-of p) h
@@ -293,11 +293,11 @@ whole-lines [] h = refl
 whole-lines (b ∷ t) h = joined-lines (b ∷ t) (ended-cons b t h)
 
 text-fault-ended : (t : Bytes) → text-fault t ≡ none → Ended t
-unfolding text-fault rule-2
+unfolding text-fault-under rule-2
 text-fault-ended t h = unless-none _ 2 (length (split-lines t)) (none-first (rule-2 t) _ (none-second (rule-1 t) _ h))
 
 pub text-round-trip : TextRoundTrip
-unfolding read-text
+unfolding read-text-under
 text-round-trip = (read, written)
   where
     read : (p : List Command) → Accepted p → read-text (text-of p) ≡ done p

@@ -1,4 +1,4 @@
--- Document 01, "What is turned down": rules 1 to 19, and the order in which each call checks them.
+-- Document 01, "What is turned down": rules 1 to 19, rule 20 of document 02's request 1, and the order in which each call checks them.
 use mathlib.Core.Bool.{Bool, true, false, cond, not, _&&_, _||_}
 use mathlib.Core.Option.{Option, none, some}
 use mathlib.Core.List.{List, [], _∷_, _++_, map}
@@ -18,6 +18,8 @@ use Rattle.theory.specs.Translation.{word-text}
 use Rattle.theory.specs.Machines.{SourceState, run-source, Memory, Position, run-word, is-memory, is-limited}
 use Rattle.theory.specs.RunSheet.{names, values, distinct}
 use Rattle.theory.specs.declared.Refusal.{Refusal}
+use Rattle.theory.specs.declared.Setting.{Setting}
+use Rattle.theory.specs.declared.Setting.the-variants.{Any, LoopOnly}
 
 -- "Each answer is number and place"
 abbrev pub refuse : ℕ → ℕ → Option Refusal
@@ -45,7 +47,8 @@ abbrev pub mapped : {A B : Type 0} → (A → B) → Answer A → Answer B
 mapped f (done a) = done (f a)
 mapped f (refused r) = refused r
 
--- Programs: rules 1 to 8
+-- Programs: rules 1 to 8 and 20. Each name that ends in `-under` is told the setting of the lesson; the name without it is the case outside
+-- the LOOP-only setting
 
 -- "The text is over 16,384 bytes (place 0)"
 unfoldable pub rule-1 : Bytes → Option Refusal
@@ -72,38 +75,68 @@ pair-fault n os (opens k i) = unless (ltb (length os) Limits.most-open) 6 n
 pair-fault n [] (closes k i) = refuse 7 n
 pair-fault n (o ∷ os) (closes k i) = unless (same-kind k (o .kind) && eqb i (o .index)) 7 n
 
--- Line n, under the pairs open there: 4, "A line is none of the spellings"; 5, "An index is above 31"; then 6 and 7
+-- 20, "a `while` or `endwhile` line under the setting"
+abbrev pub rule-20 : Setting → ℕ → Command → Option Refusal
+rule-20 Any n c = none
+rule-20 LoopOnly n (plain c) = none
+rule-20 LoopOnly n (opens loop i) = none
+rule-20 LoopOnly n (opens while i) = refuse 20 n
+rule-20 LoopOnly n (closes loop i) = none
+rule-20 LoopOnly n (closes while i) = refuse 20 n
+
+-- Line n, under the pairs open there: 4, "A line is none of the spellings"; 5, "An index is above 31"; 20, which "stands after 5 and before
+-- 6"; then 6 and 7
+abbrev pub line-fault-under : Setting → ℕ → List Opening → Option Command → Option Refusal
+line-fault-under σ n os none = refuse 4 n
+line-fault-under σ n os (some c) =
+    or-else (unless (leb (above (indices c)) (suc Limits.most-index)) 5 n)
+    (or-else (rule-20 σ n c) (pair-fault n os c))
+
 abbrev pub line-fault : ℕ → List Opening → Option Command → Option Refusal
-line-fault n os none = refuse 4 n
-line-fault n os (some c) = or-else (unless (leb (above (indices c)) (suc Limits.most-index)) 5 n) (pair-fault n os c)
+line-fault = line-fault-under Any
 
 -- The pairs open after it
 abbrev pub open-past : ℕ → List Opening → Option Command → List Opening
 open-past n os none = os
 open-past n os (some c) = open-next n os c
 
--- "rules 4 to 7 go line by line, first faulty line first"; then 8, "A pair is left open (place the innermost opening line)"
-unfoldable pub lines-fault : ℕ → List Opening → List (Option Command) → Option Refusal
-lines-fault n [] [] = none
-lines-fault n (o ∷ os) [] = refuse 8 (o .line)
-lines-fault n os (c ∷ p) = or-else (line-fault n os c) (lines-fault (suc n) (open-past n os c) p)
+-- "rules 4 to 7 go line by line, first faulty line first", 20 with them; then 8, "A pair is left open (place the innermost opening line)"
+unfoldable pub lines-fault-under : Setting → ℕ → List Opening → List (Option Command) → Option Refusal
+lines-fault-under σ n [] [] = none
+lines-fault-under σ n (o ∷ os) [] = refuse 8 (o .line)
+lines-fault-under σ n os (c ∷ p) = or-else (line-fault-under σ n os c) (lines-fault-under σ (suc n) (open-past n os c) p)
+
+abbrev pub lines-fault : ℕ → List Opening → List (Option Command) → Option Refusal
+lines-fault = lines-fault-under Any
 
 -- Rules 3 to 8, of the lines of a text or the commands of a list
-unfoldable pub program-fault : List (Option Command) → Option Refusal
-program-fault p = or-else (rule-3 p) (lines-fault 1 [] p)
+unfoldable pub program-fault-under : Setting → List (Option Command) → Option Refusal
+program-fault-under σ p = or-else (rule-3 p) (lines-fault-under σ 1 [] p)
+
+abbrev pub program-fault : List (Option Command) → Option Refusal
+program-fault = program-fault-under Any
 
 abbrev pub text-lines : Bytes → List (Option Command)
 text-lines t = map command (split-lines t)
 
-unfoldable pub text-fault : Bytes → Option Refusal
-text-fault t = or-else (rule-1 t) (or-else (rule-2 t) (program-fault (text-lines t)))
+unfoldable pub text-fault-under : Setting → Bytes → Option Refusal
+text-fault-under σ t = or-else (rule-1 t) (or-else (rule-2 t) (program-fault-under σ (text-lines t)))
+
+abbrev pub text-fault : Bytes → Option Refusal
+text-fault = text-fault-under Any
 
 -- A program handed in as text, rules 1 to 8; as a list of numbers, rules 3 to 8: "A call skips the numbers of things it isn't given"
-unfoldable pub read-text : Bytes → Answer (List Command)
-read-text t = answer (text-fault t) (present (text-lines t))
+unfoldable pub read-text-under : Setting → Bytes → Answer (List Command)
+read-text-under σ t = answer (text-fault-under σ t) (present (text-lines t))
 
-unfoldable pub read-list : List ℕ → Answer (List Command)
-read-list l = answer (program-fault (listed l)) (commands l)
+abbrev pub read-text : Bytes → Answer (List Command)
+read-text = read-text-under Any
+
+unfoldable pub read-list-under : Setting → List ℕ → Answer (List Command)
+read-list-under σ l = answer (program-fault-under σ (listed l)) (commands l)
+
+abbrev pub read-list : List ℕ → Answer (List Command)
+read-list = read-list-under Any
 
 -- Source states: rule 9
 
@@ -280,15 +313,15 @@ lent-after lent (done l) = l ++ drop (length l) lent
 lent-after lent (refused r) = lent
 
 -- Calls: the order in which each checks what it is given, and then what it does. "Lower numbers are checked first"; "A call skips the
--- numbers of things it isn't given". `read-text`, `read-list`, `read-word`, `read-table` and `sheet-fault` above are calls too
+-- numbers of things it isn't given". `read-text-under`, `read-list-under`, `read-word`, `read-table` and `sheet-fault` above are calls too
 
 -- A text read into a lent list: 1 to 8, 19
-unfoldable pub read-program-into : List ℕ → Bytes → Answer (List Command)
-read-program-into lent t = after (read-text t) λ p. answer (rule-19 lent (list-of p)) p
+unfoldable pub read-program-into : Setting → List ℕ → Bytes → Answer (List Command)
+read-program-into σ lent t = after (read-text-under σ t) λ p. answer (rule-19 lent (list-of p)) p
 
 -- A list written into a lent text: 3 to 8, 19
-unfoldable pub write-program-into : Bytes → List ℕ → Answer Bytes
-write-program-into lent l = lend lent (mapped text-of (read-list l))
+unfoldable pub write-program-into : Setting → Bytes → List ℕ → Answer Bytes
+write-program-into σ lent l = lend lent (mapped text-of (read-list-under σ l))
 
 -- A program, handed in as text (1 to 8) or list (3 to 8), translated into a lent output: its rules, 19
 unfoldable pub translate-into : Bytes → Answer (List Command) → Answer (List Command)

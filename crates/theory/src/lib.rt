@@ -14,3 +14,9 @@ pub enum End {
     Spent,
     Full,
 }
+
+// The setting of a lesson: every program is taken, or LOOP programs alone (document 02, request 1).
+pub enum Setting {
+    Any,
+    LoopOnly,
+}
