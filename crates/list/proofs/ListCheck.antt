@@ -11,8 +11,10 @@ use lib.Seq.{drop-cons}
 use Rattle.theory.specs.Basics.{present}
 use Rattle.theory.specs.ProgramText as P
 use Rattle.theory.specs.ProgramText.{Command, variables, command-of, listed, commands}
-use Rattle.theory.specs.TurnedDown.{rule-3, lines-fault, program-fault, read-list}
+use Rattle.theory.specs.TurnedDown.{rule-3, line-fault, lines-fault-under, program-fault-under, read-list-under}
 use Rattle.theory.specs.declared.Refusal.{Refusal}
+use Rattle.theory.specs.declared.Setting.{Setting}
+use Rattle.theory.proofs.Settings.{line-outside}
 use Rattle.nesting.specs.declared.Opening.{Opening}
 use Rattle.nesting.specs.declared.Judged.{Judged}
 use Rattle.nesting.specs.declared.Judged.the-variants.{Passes, Fault}
@@ -45,39 +47,39 @@ listed-many (k ∷ i ∷ j ∷ l) = let h = listed-many l in (omega arith, omega
 
 -- Rule 3, and the answer where it does not apply
 
-pub too-many : (l : List ℕ) → 1536 < length l → Refused (record { number = 3; place = 513 }) ≡ checked (read-list l)
-unfolding read-list commands program-fault rule-3
-too-many l h = rw (lt-leb (length (listed l)) 512 (omega (arith, listed-many l .0)))
+pub too-many : (σ : Setting) (l : List ℕ) → 1536 < length l → Refused (record { number = 3; place = 513 }) ≡ checked (read-list-under σ l)
+unfolding read-list-under commands program-fault-under rule-3
+too-many σ l h = rw (lt-leb (length (listed l)) 512 (omega (arith, listed-many l .0)))
 
-module _ (l : List ℕ) (short : length l ≤ 1536) where
-  few : program-fault (listed l) ≡ lines-fault 1 [] (listed l)
-  unfolding program-fault rule-3
+module _ (σ : Setting) (l : List ℕ) (short : length l ≤ 1536) where
+  few : program-fault-under σ (listed l) ≡ lines-fault-under σ 1 [] (listed l)
+  unfolding program-fault-under rule-3
   few = rw (le-leb (length (listed l)) 512 (omega (arith, listed-many l .1)))
 
-  refused-by : (r : Refusal) → lines-fault 1 [] (listed l) ≡ some r → Refused r ≡ checked (read-list l)
-  unfolding read-list commands
+  refused-by : (r : Refusal) → lines-fault-under σ 1 [] (listed l) ≡ some r → Refused r ≡ checked (read-list-under σ l)
+  unfolding read-list-under commands
   refused-by r e = rw (few, e)
 
-  accepted-as : (n K : ℕ) → lines-fault 1 [] (listed l) ≡ none → n ≡ length (present (listed l)) → K ≡ variables (present (listed l))
-      → Accepted (record { lines = n; variables = K }) ≡ checked (read-list l)
-  unfolding read-list commands
+  accepted-as : (n K : ℕ) → lines-fault-under σ 1 [] (listed l) ≡ none → n ≡ length (present (listed l)) → K ≡ variables (present (listed l))
+      → Accepted (record { lines = n; variables = K }) ≡ checked (read-list-under σ l)
+  unfolding read-list-under commands
   accepted-as n K e f g = rw (few, e, f, g)
 
 -- Before command n + 1: os has the openings, of which d pairs are open, K is that of the commands before, and the faults left are those of
 -- the whole list
-pub record SoFar (l : List ℕ) (n K d : ℕ) (os : List Opening) : Type 0 where
+pub record SoFar (σ : Setting) (l : List ℕ) (n K d : ℕ) (os : List Opening) : Type 0 where
   pub within : 3 * n ≤ length l
   pub room : d ≤ 16
   pub places : length os ≡ 18
-  pub rest : lines-fault (n + 1) (innermost d os) (listed (drop (3 * n) l)) ≡ lines-fault 1 [] (listed l)
+  pub rest : lines-fault-under σ (n + 1) (innermost d os) (listed (drop (3 * n) l)) ≡ lines-fault-under σ 1 [] (listed l)
   pub commands : n + length (present (listed (drop (3 * n) l))) ≡ length (present (listed l))
   pub names : max K (variables (present (listed (drop (3 * n) l)))) ≡ variables (present (listed l))
 
-pub at-first : (l : List ℕ) → SoFar l 0 0 0 (replicate 18 nothing)
+pub at-first : (σ : Setting) (l : List ℕ) → SoFar σ l 0 0 0 (replicate 18 nothing)
 unfolding innermost
-at-first l = record { within = omega arith; room = omega arith; places = refl; rest = refl; commands = omega arith; names = omega arith }
+at-first σ l = record { within = omega arith; room = omega arith; places = refl; rest = refl; commands = omega arith; names = omega arith }
 
-module _ (l : List ℕ) (n K d : ℕ) (os : List Opening) (h : SoFar l n K d os) where
+module _ (σ : Setting) (l : List ℕ) (n K d : ℕ) (os : List Opening) (h : SoFar σ l n K d os) where
   abbrev here : Option Command
   here = command-of (getD l (3 * n) 0) (getD l (3 * n + 1) 0) (getD l (3 * n + 2) 0)
 
@@ -88,28 +90,29 @@ module _ (l : List ℕ) (n K d : ℕ) (os : List Opening) (h : SoFar l n K d os)
         let e : 3 * n + 3 ≡ 3 * (n + 1) = omega arith in
         rw (three-at l (3 * n) more, e)
 
-    verdict : lines-fault 1 [] (listed l) ≡ lines-fault (n + 1) (innermost d os) (here ∷ listed (drop (3 * (n + 1)) l))
+    verdict : lines-fault-under σ 1 [] (listed l) ≡ lines-fault-under σ (n + 1) (innermost d os) (here ∷ listed (drop (3 * (n + 1)) l))
     verdict = sym (h .rest) ∙ rw left
 
     split : (c : Command) → here ≡ some c → present (listed (drop (3 * n) l)) ≡ c ∷ present (listed (drop (3 * (n + 1)) l))
     split c e = rw (left, e)
 
-    module _ {v : Judged} (e : v ≡ judged (n + 1) (pairs d (getD os d nothing)) here) where
-      pub faulty : {r : Refusal} → v ≡ Fault r → length l ≤ 1536 → Refused r ≡ checked (read-list l)
-      unfolding lines-fault
-      faulty f short = refused-by l short _ (verdict ∙ rw (was-fault (n + 1) d os here e f))
+    module _ {v : Judged} (e : v ≡ judged σ (n + 1) (pairs d (getD os d nothing)) here) where
+      pub faulty : {r : Refusal} → v ≡ Fault r → length l ≤ 1536 → Refused r ≡ checked (read-list-under σ l)
+      unfolding lines-fault-under
+      faulty f short = refused-by σ l short _ (verdict ∙ rw (was-fault σ (n + 1) d os here e f))
 
       abbrev put : List Opening
       put = set os (d + 1) (record { line = n + 1; kind = getD l (3 * n) 0; index = getD l (3 * n + 1) 0 })
 
       pub onward : {d′ : ℕ} → v ≡ Passes d′ → (K′ : ℕ) → K′ ≡ max (max K (suc (getD l (3 * n + 1) 0))) (suc (getD l (3 * n + 2) 0))
-          → SoFar l (n + 1) K′ d′ put
-      unfolding lines-fault
+          → SoFar σ l (n + 1) K′ d′ put
+      unfolding lines-fault-under
       onward {d′} p K′ g =
-          let q = has-passed (n + 1) d os here e p in
-          let f : Follows (n + 1) (innermost d os) here d′ put = rw (q .1) (follows (n + 1) d os _ _ (h .places) (h .room) _ (q .0)) in
+          let q = has-passed σ (n + 1) d os here e p in
+          let passed : line-fault (n + 1) (innermost d os) here ≡ none = line-outside σ (n + 1) (innermost d os) here (q .0) in
+          let f : Follows (n + 1) (innermost d os) here d′ put = rw (q .1) (follows (n + 1) d os _ _ (h .places) (h .room) _ passed) in
           let k : Known (getD l (3 * n) 0) (getD l (3 * n + 1) 0) (getD l (3 * n + 2) 0) = known _ _ _
-          (passed-known (n + 1) (innermost d os) _ _ _ (q .0)) in
+          (passed-known (n + 1) (innermost d os) _ _ _ passed) in
           let first : _ = split (k .command) (k .is) in
           record {
             within = omega arith;
@@ -122,29 +125,29 @@ module _ (l : List ℕ) (n K d : ℕ) (os : List Opening) (h : SoFar l n K d os)
 
   -- The end: a last command cut short, or rule 8
   pub cut : 3 * n < length l → length l ≤ 3 * n + 2 → length l ≤ 1536
-      → Refused (record { number = 4; place = n + 1 }) ≡ checked (read-list l)
-  unfolding lines-fault listed
+      → Refused (record { number = 4; place = n + 1 }) ≡ checked (read-list-under σ l)
+  unfolding lines-fault-under listed
   cut more less short =
-      refused-by l short _ (sym (h .rest) ∙ go (drop (3 * n) l) (omega (arith, length-drop (3 * n) l))
+      refused-by σ l short _ (sym (h .rest) ∙ go (drop (3 * n) l) (omega (arith, length-drop (3 * n) l))
       (omega (arith, length-drop (3 * n) l)))
     where
       go : (u : List ℕ) → 0 < length u → length u ≤ 2
-          → lines-fault (n + 1) (innermost d os) (listed u) ≡ some (record { number = 4; place = n + 1 })
+          → lines-fault-under σ (n + 1) (innermost d os) (listed u) ≡ some (record { number = 4; place = n + 1 })
       go [] a b = absurd (omega arith)
       go (k ∷ []) a b = refl
       go (k ∷ i ∷ []) a b = refl
       go (k ∷ i ∷ j ∷ u) a b = absurd (omega arith)
 
-  pub whole : length l ≤ 3 * n → length l ≤ 1536 → at-end (record { lines = n; variables = K }) (innermost d os) ≡ checked (read-list l)
-  unfolding lines-fault listed
+  pub whole : length l ≤ 3 * n → length l ≤ 1536 → at-end (record { lines = n; variables = K }) (innermost d os) ≡ checked (read-list-under σ l)
+  unfolding lines-fault-under listed
   whole all short = go (innermost d os) (sym (h .rest) ∙ rw nothing-left)
     where
       nothing-left : drop (3 * n) l ≡ []
       nothing-left = drop-of-length-le l all
 
-      go : (os : List P.Opening) → lines-fault 1 [] (listed l) ≡ lines-fault (n + 1) os []
-          → at-end (record { lines = n; variables = K }) os ≡ checked (read-list l)
+      go : (os : List P.Opening) → lines-fault-under σ 1 [] (listed l) ≡ lines-fault-under σ (n + 1) os []
+          → at-end (record { lines = n; variables = K }) os ≡ checked (read-list-under σ l)
       go [] e =
-          accepted-as l short n K e (omega (arith, h .commands, ap (λ u. length (present (listed u))) nothing-left))
+          accepted-as σ l short n K e (omega (arith, h .commands, ap (λ u. length (present (listed u))) nothing-left))
           (omega (arith, h .names, ap (λ u. variables (present (listed u))) nothing-left))
-      go (o ∷ os) e = refused-by l short _ e
+      go (o ∷ os) e = refused-by σ l short _ e

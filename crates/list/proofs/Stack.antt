@@ -12,8 +12,9 @@ use lib.ListN.{length, getD, set, replicate}
 use lib.Seq.{getD-set-same, getD-set-other}
 use Rattle.theory.specs.ProgramText as P
 use Rattle.theory.specs.ProgramText.{Plain, clear, increment, copy, Kind, Command, plain, opens, closes, command-of}
-use Rattle.theory.specs.TurnedDown.{line-fault, open-past}
+use Rattle.theory.specs.TurnedDown.{line-fault, line-fault-under, open-past}
 use Rattle.theory.specs.declared.Refusal.{Refusal}
+use Rattle.theory.specs.declared.Setting.{Setting}
 use Rattle.theory.proofs.Nesting.{few-open, one-open}
 use Rattle.nesting.specs.declared.Opening.{Opening}
 use Rattle.nesting.specs.declared.Judged.{Judged}
@@ -54,13 +55,13 @@ innermost-push n l o h =
 
 -- The verdict under them, and the end: both ask how many they are, and which is the innermost
 
-pub judged-under : (n count : ℕ) (l : List Opening) (c : Option Command)
-    → judged n (pairs count (getD l count nothing)) c ≡ judged n (innermost count l) c
+pub judged-under : (σ : Setting) (n count : ℕ) (l : List Opening) (c : Option Command)
+    → judged σ n (pairs count (getD l count nothing)) c ≡ judged σ n (innermost count l) c
 unfolding innermost
-judged-under n zero l c = refl
-judged-under n (suc m) l c =
+judged-under σ n zero l c = refl
+judged-under σ n (suc m) l c =
     let o : P.Opening = open-of (getD l (suc m) nothing) in
-    ap (λ k. judged n (replicate (suc k) o) c) (sym (length-innermost m l)) ∙ same-verdict n o (innermost m l) c
+    ap (λ k. judged σ n (replicate (suc k) o) c) (sym (length-innermost m l)) ∙ same-verdict σ n o (innermost m l) c
 
 pub ended-under : (p : Program) (count : ℕ) (l : List Opening)
     → at-end p (pairs count (getD l count nothing)) ≡ at-end p (innermost count l)
@@ -78,13 +79,14 @@ read-passes : (n : ℕ) (o : Option Refusal) {m : ℕ} → Passes m ≡ verdict 
 read-passes n none e = (refl, cc)
 read-passes n (some q) e = let z : _≡_ {A = ℕ} 0 1 = cc in absurd (omega arith)
 
-module _ (n count : ℕ) (l : List Opening) (c : Option Command) {v : Judged} (e : v ≡ judged n (pairs count (getD l count nothing)) c) where
-  pub was-fault : {r : Refusal} → v ≡ Fault r → line-fault n (innermost count l) c ≡ some r
-  was-fault f = read-fault _ _ (sym f ∙ e ∙ judged-under n count l c)
+module _ (σ : Setting) (n count : ℕ) (l : List Opening) (c : Option Command) {v : Judged}
+    (e : v ≡ judged σ n (pairs count (getD l count nothing)) c) where
+  pub was-fault : {r : Refusal} → v ≡ Fault r → line-fault-under σ n (innermost count l) c ≡ some r
+  was-fault f = read-fault _ _ (sym f ∙ e ∙ judged-under σ n count l c)
 
   pub has-passed : {m : ℕ} → v ≡ Passes m
-      → (line-fault n (innermost count l) c ≡ none) × (m ≡ length (open-past n (innermost count l) c))
-  has-passed f = read-passes _ _ (sym f ∙ e ∙ judged-under n count l c)
+      → (line-fault-under σ n (innermost count l) c ≡ none) × (m ≡ length (open-past n (innermost count l) c))
+  has-passed f = read-passes _ _ (sym f ∙ e ∙ judged-under σ n count l c)
 
 -- A command that passed
 

@@ -1,11 +1,13 @@
-// A program as a list of three numbers a command (document 01, "The program text"), checked by rules 3 to 8.
+// A program as a list of three numbers a command (document 01, "The program text"), checked by rules 3 to 8 and, under the LOOP-only
+// setting, 20.
 use nesting::Judged;
 use nesting::Opening;
 use nesting::judge;
 use theory::Refusal;
+use theory::Setting;
 ghost use mathlib.Core.Path.{_≡_};
 ghost use Prim.Native.Nat.{suc, max};
-ghost use Rattle.theory.specs.TurnedDown.{read-list};
+ghost use Rattle.theory.specs.TurnedDown.{read-list-under};
 ghost use Rattle.nesting.specs.Nesting.{pairs};
 ghost use Rattle.list.specs.Answers.{checked, at-end};
 
@@ -62,9 +64,10 @@ fn ended(count: usize, last: Opening, program: Program) -> Checked
     }
 }
 
-// Rules 3 to 8, the commands of a list taken as lines. Every command is put where an opening would stand; it counts where it is one.
-pub fn check_list(list: &[u8]) -> Checked
-    ensures { λ r. ⌜ r ≡ checked (read-list (now (list .entry))) ⌝ }
+// Rules 3 to 8 under a setting, the commands of a list taken as lines. Every command is put where an opening would stand; it counts where it
+// is one.
+pub fn check_list(setting: Setting, list: &[u8]) -> Checked
+    ensures { λ r. ⌜ r ≡ checked (read-list-under setting (now (list .entry))) ⌝ }
 {
     if Program::NUMBERS < list.len() {
         return refused(3, Program::LINES + 1);
@@ -89,7 +92,7 @@ pub fn check_list(list: &[u8]) -> Checked
             kind,
             index,
         };
-        match judge(count, last, lines, kind, index, source) {
+        match judge(setting, count, last, lines, kind, index, source) {
             Judged::Fault(r) => return Checked::Refused(r),
             Judged::Passes(open) => count = open,
         }

@@ -10,14 +10,17 @@ use native.Mathlib.Omega.{arith}
 use borrow.Author.Tests.{ltb-true, ltb-false, eqb-true, lt-ltb, lt-leb, le-leb, ne-eqb}
 use lib.Dec.{eqb, ltb, leb}
 use lib.ListN.{length, replicate, length-replicate}
+use Rattle.theory.specs.Basics.{or-else, given}
 use Rattle.theory.specs.ProgramText as P
 use Rattle.theory.specs.ProgramText.{Plain, clear, increment, copy, loop, while, Command, plain, opens, closes, indices, above}
 use Rattle.theory.specs.ProgramText.{command-of, open-next}
-use Rattle.theory.specs.TurnedDown.{unless, same-kind, pair-fault}
+use Rattle.theory.specs.TurnedDown.{unless, same-kind, rule-20, pair-fault}
+use Rattle.theory.specs.declared.Setting.{Setting}
+use Rattle.theory.specs.declared.Setting.the-variants.{Any, LoopOnly}
 use Rattle.nesting.specs.declared.Opening.{Opening}
 use Rattle.nesting.specs.declared.Judged.{Judged}
 use Rattle.nesting.specs.declared.Judged.the-variants.{Passes, Fault}
-use Rattle.nesting.specs.Nesting.{kind-of, open-of, pairs, is-known, verdict, judged}
+use Rattle.nesting.specs.Nesting.{kind-of, open-of, pairs, is-known, is-banned, verdict, judged}
 
 -- Kinds by a test
 pub alike-loop : (b : Bool) → b ≡ same-kind loop (cond b loop while)
@@ -47,6 +50,7 @@ pub record Known (k i j : ℕ) : Type 0 where
   pub command : Command
   pub is : command-of k i j ≡ some command
   pub top : above (indices command) ≡ suc (max i j)
+  pub banned : (n : ℕ) → rule-20 LoopOnly n command ≡ given (leb 6 k) (record { number = 20; place = n })
   pub other : ((k ≡ 4) ⊎ (k ≡ 6) → ⊥) → ((k ≡ 5) ⊎ (k ≡ 7) → ⊥) → (p : Plain) × (command ≡ plain p)
 
 one-index : (i j : ℕ) → eqb j 0 ≡ true → max (suc i) 0 ≡ suc (max i j)
@@ -55,19 +59,19 @@ one-index i j h = omega (arith, eqb-true j 0 h)
 pub known : (k i j : ℕ) → is-known k j ≡ true → Known k i j
 unfolding command-of
 known zero i j h = absurd (false≢true h)
-known (suc zero) i j h = record { command = plain (clear i); is = rw h; top = one-index i j h; other = λ _ _. (clear i, refl) }
+known (suc zero) i j h = record { command = plain (clear i); is = rw h; top = one-index i j h; banned = λ n. refl; other = λ _ _. (clear i, refl) }
 known (suc (suc zero)) i j h =
-    record { command = plain (increment i); is = rw h; top = one-index i j h; other = λ _ _. (increment i, refl) }
+    record { command = plain (increment i); is = rw h; top = one-index i j h; banned = λ n. refl; other = λ _ _. (increment i, refl) }
 known (suc (suc (suc zero))) i j h =
-    record { command = plain (copy i j); is = refl; top = omega arith; other = λ _ _. (copy i j, refl) }
+    record { command = plain (copy i j); is = refl; top = omega arith; banned = λ n. refl; other = λ _ _. (copy i j, refl) }
 known (suc (suc (suc (suc zero)))) i j h =
-    record { command = opens loop i; is = rw h; top = one-index i j h; other = λ n _. absurd (n (inl refl)) }
+    record { command = opens loop i; is = rw h; top = one-index i j h; banned = λ n. refl; other = λ n _. absurd (n (inl refl)) }
 known (suc (suc (suc (suc (suc zero))))) i j h =
-    record { command = closes loop i; is = rw h; top = one-index i j h; other = λ _ n. absurd (n (inl refl)) }
+    record { command = closes loop i; is = rw h; top = one-index i j h; banned = λ n. refl; other = λ _ n. absurd (n (inl refl)) }
 known (suc (suc (suc (suc (suc (suc zero)))))) i j h =
-    record { command = opens while i; is = rw h; top = one-index i j h; other = λ n _. absurd (n (inr refl)) }
+    record { command = opens while i; is = rw h; top = one-index i j h; banned = λ n. refl; other = λ n _. absurd (n (inr refl)) }
 known (suc (suc (suc (suc (suc (suc (suc zero))))))) i j h =
-    record { command = closes while i; is = rw h; top = one-index i j h; other = λ _ n. absurd (n (inr refl)) }
+    record { command = closes while i; is = rw h; top = one-index i j h; banned = λ n. refl; other = λ _ n. absurd (n (inr refl)) }
 known (suc (suc (suc (suc (suc (suc (suc (suc k)))))))) i j h =
     absurd (omega (arith, known-below (suc (suc (suc (suc (suc (suc (suc (suc k)))))))) j h))
 
@@ -118,12 +122,12 @@ closing k i j (inr e) h = let t : eqb j 0 ≡ true = rw e at h in rw (e, t)
 
 -- The verdict on a command, rule by rule
 
-module _ (n count : ℕ) (last : Opening) (k i j : ℕ) where
+module _ (σ : Setting) (n count : ℕ) (last : Opening) (k i j : ℕ) where
   abbrev os : List P.Opening
   os = pairs count last
 
   abbrev here : Judged
-  here = judged n os (command-of k i j)
+  here = judged σ n os (command-of k i j)
 
   long : length os ≡ count
   long = length-replicate count (open-of last)
@@ -140,28 +144,43 @@ module _ (n count : ℕ) (last : Opening) (k i j : ℕ) where
         let t : 32 < above (indices (kn .command)) = omega (arith, kn .top) in
         rw (kn .is, lt-leb (above (indices (kn .command))) 32 t)
 
-    -- past rule 5, the verdict is that of the pair
-    past-5 : (c : Command) → kn .command ≡ c → max i j ≤ 31 → verdict (length (open-next n os c)) (pair-fault n os c) ≡ here
-    past-5 c e l =
-        let t : above (indices (kn .command)) ≤ 32 = omega (arith, kn .top) in
-        rw (kn .is, le-leb (above (indices (kn .command))) 32 t, e)
-
-    pub of-opening : (k ≡ 4) ⊎ (k ≡ 6) → max i j ≤ 31 → verdict (count + 1) (unless (ltb count 16) 6 n) ≡ here
-    of-opening o l =
-        ap (λ m. verdict (m + 1) (unless (ltb m 16) 6 n)) (sym long)
-        ∙ rw (add-one (length os)) (past-5 (opens (kind-of k) i) (cc (kn .is, opening k i j o h)) l)
-
-    pub of-closing : (k ≡ 5) ⊎ (k ≡ 7) → max i j ≤ 31 → verdict (count - 1) (pair-fault n os (closes (kind-of k) i)) ≡ here
-    of-closing o l =
-        let c : Command = closes (kind-of k) i in
-        ap (λ m. verdict m (pair-fault n os c)) (one-less count) ∙ past-5 c (cc (kn .is, closing k i j o h)) l
+    rule-20-is : rule-20 σ n (kn .command) ≡ given (is-banned σ k) (record { number = 20; place = n })
+    rule-20-is = go σ
       where
-        one-less : (m : ℕ) → m - 1 ≡ length (open-next n (pairs m last) (closes (kind-of k) i))
-        one-less zero = refl
-        one-less (suc m) = omega (arith, length-replicate m (open-of last))
+        go : (σ : Setting) → rule-20 σ n (kn .command) ≡ given (is-banned σ k) (record { number = 20; place = n })
+        go Any = refl
+        go LoopOnly = kn .banned n
 
-    pub of-plain : ((k ≡ 4) ⊎ (k ≡ 6) → ⊥) → ((k ≡ 5) ⊎ (k ≡ 7) → ⊥) → max i j ≤ 31 → Passes count ≡ here
-    of-plain a b l = let p = kn .other a b in ap Passes (sym long) ∙ past-5 (plain (p .0)) (p .1) l
+    module _ (l : max i j ≤ 31) where
+      low : leb (above (indices (kn .command))) 32 ≡ true
+      low =
+          let t : above (indices (kn .command)) ≤ 32 = omega (arith, kn .top) in
+          le-leb (above (indices (kn .command))) 32 t
+
+      pub fault-20 : is-banned σ k ≡ true → Fault (record { number = 20; place = n }) ≡ here
+      fault-20 b = rw (kn .is, low, rule-20-is, b)
+
+      module _ (b : is-banned σ k ≡ false) where
+        -- past rules 5 and 20, the verdict is that of the pair
+        past-20 : (c : Command) → kn .command ≡ c → verdict (length (open-next n os c)) (pair-fault n os c) ≡ here
+        past-20 c e = rw (kn .is, low, rule-20-is, b, e)
+
+        pub of-opening : (k ≡ 4) ⊎ (k ≡ 6) → verdict (count + 1) (unless (ltb count 16) 6 n) ≡ here
+        of-opening o =
+            ap (λ m. verdict (m + 1) (unless (ltb m 16) 6 n)) (sym long)
+            ∙ rw (add-one (length os)) (past-20 (opens (kind-of k) i) (cc (kn .is, opening k i j o h)))
+
+        pub of-closing : (k ≡ 5) ⊎ (k ≡ 7) → verdict (count - 1) (pair-fault n os (closes (kind-of k) i)) ≡ here
+        of-closing o =
+            let c : Command = closes (kind-of k) i in
+            ap (λ m. verdict m (pair-fault n os c)) (one-less count) ∙ past-20 c (cc (kn .is, closing k i j o h))
+          where
+            one-less : (m : ℕ) → m - 1 ≡ length (open-next n (pairs m last) (closes (kind-of k) i))
+            one-less zero = refl
+            one-less (suc m) = omega (arith, length-replicate m (open-of last))
+
+        pub of-plain : ((k ≡ 4) ⊎ (k ≡ 6) → ⊥) → ((k ≡ 5) ⊎ (k ≡ 7) → ⊥) → Passes count ≡ here
+        of-plain a c = let p = kn .other a c in ap Passes (sym long) ∙ past-20 (plain (p .0)) (p .1)
 
 -- A line that closes a pair
 
@@ -185,9 +204,9 @@ module _ (count : ℕ) (last : Opening) (k i n : ℕ) where
       go false f e = absurd (false≢true e)
 
 -- Of the pairs that are open the verdict asks how many they are, and which is the innermost
-pub same-verdict : (n : ℕ) (o : P.Opening) (os : List P.Opening) (c : Option Command)
-    → judged n (replicate (suc (length os)) o) c ≡ judged n (o ∷ os) c
-same-verdict n o os none = refl
-same-verdict n o os (some (plain p)) = rw (length-replicate (length os) o)
-same-verdict n o os (some (opens k i)) = rw (length-replicate (length os) o)
-same-verdict n o os (some (closes k i)) = rw (length-replicate (length os) o)
+pub same-verdict : (σ : Setting) (n : ℕ) (o : P.Opening) (os : List P.Opening) (c : Option Command)
+    → judged σ n (replicate (suc (length os)) o) c ≡ judged σ n (o ∷ os) c
+same-verdict σ n o os none = refl
+same-verdict σ n o os (some (plain p)) = rw (length-replicate (length os) o)
+same-verdict σ n o os (some (opens k i)) = rw (length-replicate (length os) o)
+same-verdict σ n o os (some (closes k i)) = rw (length-replicate (length os) o)

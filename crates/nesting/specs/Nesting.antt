@@ -4,11 +4,13 @@ use mathlib.Core.Option.{Option, none, some}
 use mathlib.Core.List.{List}
 use Prim.Native.Nat.{ℕ}
 use lib.ListN.{length, replicate}
-use lib.Dec.{eqb, ltb}
+use lib.Dec.{eqb, ltb, leb}
 use Rattle.theory.specs.ProgramText as P
 use Rattle.theory.specs.ProgramText.{Kind, loop, while, Command}
-use Rattle.theory.specs.TurnedDown.{line-fault, open-past}
+use Rattle.theory.specs.TurnedDown.{line-fault-under, open-past}
 use Rattle.theory.specs.declared.Refusal.{Refusal}
+use Rattle.theory.specs.declared.Setting.{Setting}
+use Rattle.theory.specs.declared.Setting.the-variants.{Any, LoopOnly}
 use Rattle.nesting.specs.declared.Opening.{Opening}
 use Rattle.nesting.specs.declared.Judged.{Judged}
 use Rattle.nesting.specs.declared.Judged.the-variants.{Passes, Fault}
@@ -29,11 +31,16 @@ pairs n o = replicate n (open-of o)
 abbrev pub is-known : ℕ → ℕ → Bool
 is-known k j = cond (eqb k 0) false (cond (eqb k 3) true (cond (ltb k 8) (eqb j 0) false))
 
+-- Whether a setting bans a command of kind k: of the kinds, 6 and 7 are `while` and `endwhile`
+abbrev pub is-banned : Setting → ℕ → Bool
+is-banned Any k = false
+is-banned LoopOnly k = leb 6 k
+
 -- No fault, and so many pairs are open after it; or the fault
 abbrev pub verdict : ℕ → Option Refusal → Judged
 verdict n none = Passes n
 verdict n (some r) = Fault r
 
--- The verdict on line n, under the pairs open there
-abbrev pub judged : ℕ → List P.Opening → Option Command → Judged
-judged n os c = verdict (length (open-past n os c)) (line-fault n os c)
+-- The verdict on line n, under the setting and the pairs open there
+abbrev pub judged : Setting → ℕ → List P.Opening → Option Command → Judged
+judged σ n os c = verdict (length (open-past n os c)) (line-fault-under σ n os c)

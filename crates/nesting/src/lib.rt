@@ -1,4 +1,5 @@
-// One command under the pairs that are open (document 01, rules 4 to 7): it is at fault, or so many pairs are open after it.
+// One command under the setting and the pairs that are open (document 01, rules 4 to 7, and document 02's 20): it is at fault, or so many
+// pairs are open after it.
 use command::CLEAR;
 use command::COPY;
 use command::ENDLOOP;
@@ -7,6 +8,7 @@ use command::LOOP;
 use command::Numbers;
 use command::WHILE;
 use theory::Refusal;
+use theory::Setting;
 ghost use mathlib.Core.Path.{_≡_};
 ghost use Prim.Native.Nat.{_+_, _-_, max};
 ghost use mathlib.Core.Bool.{_&&_};
@@ -14,7 +16,7 @@ ghost use lib.Dec.{eqb, ltb};
 ghost use Rattle.theory.specs.Limits.{most-open};
 ghost use Rattle.theory.specs.ProgramText.{closes, command-of};
 ghost use Rattle.theory.specs.TurnedDown.{unless, same-kind, pair-fault};
-ghost use Rattle.nesting.specs.Nesting.{kind-of, pairs, verdict, judged, is-known};
+ghost use Rattle.nesting.specs.Nesting.{kind-of, pairs, verdict, judged, is-known, is-banned};
 
 // A line that opens a pair: its number, its kind (LOOP or WHILE) and its index.
 pub struct Opening {
@@ -63,6 +65,16 @@ fn is_command(kind: u8, source: u8) -> bool
     }
 }
 
+// Whether a setting bans a command of this kind: rule 20.
+fn is_banned(setting: Setting, kind: u8) -> bool
+    ensures { λ r. ⌜ r ≡ is-banned setting kind ⌝ }
+{
+    match setting {
+        Setting::Any => false,
+        Setting::LoopOnly => WHILE <= kind,
+    }
+}
+
 // Whether two lines, each of which opens or closes a pair, are of one kind.
 fn are_alike(kind: u8, other: u8) -> bool
     ensures { λ r. ⌜ r ≡ same-kind (kind-of kind) (kind-of other) ⌝ }
@@ -108,15 +120,18 @@ fn closed(count: usize, last: Opening, line: usize, kind: u8, index: u8) -> Judg
     }
 }
 
-// A command at a line, where so many pairs are open and the innermost is `last`: rules 4 and 5, then 6 and 7.
-pub fn judge(count: usize, last: Opening, line: usize, kind: u8, index: u8, source: u8) -> Judged
-    ensures { λ r. ⌜ r ≡ judged line (pairs count last) (command-of kind index source) ⌝ }
+// A command at a line, where so many pairs are open and the innermost is `last`: rules 4 and 5, then 20, then 6 and 7.
+pub fn judge(setting: Setting, count: usize, last: Opening, line: usize, kind: u8, index: u8, source: u8) -> Judged
+    ensures { λ r. ⌜ r ≡ judged setting line (pairs count last) (command-of kind index source) ⌝ }
 {
     if !is_command(kind, source) {
         return fault(4, line);
     }
     if Numbers::INDEX < higher(index, source) {
         return fault(5, line);
+    }
+    if is_banned(setting, kind) {
+        return fault(20, line);
     }
     match kind {
         LOOP | WHILE => opened(count, line),

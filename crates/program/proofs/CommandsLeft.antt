@@ -13,7 +13,7 @@ use Rattle.theory.specs.Basics.{present, EachOf}
 use Rattle.theory.specs.Text.{Bytes, LF}
 use Rattle.theory.specs.ProgramText.{Command, spelling, text-of}
 use Rattle.theory.specs.ProgramText.{command-of, listed}
-use Rattle.theory.specs.TurnedDown.{rule-1, program-fault, text-fault}
+use Rattle.theory.specs.TurnedDown.{rule-1, program-fault, text-fault-under}
 use Rattle.theory.specs.Claims.{Accepted}
 use Rattle.theory.proofs.Faults.{none-first, unless-none}
 use Rattle.theory.proofs.Nesting.{LowIndices, low, nothing-missing}
@@ -39,7 +39,7 @@ module _ (l : List ℕ) (e : program-fault (listed l) ≡ none) where
   all-left = record { commands = present (listed l); are = sym (nothing-missing (listed l) e); high = low (present (listed l)) accepted }
 
   pub text-short : length (text-of (present (listed l))) ≤ 16384
-  unfolding text-fault rule-1
+  unfolding text-fault-under rule-1
   text-short =
       let t : Bytes = text-of (present (listed l)) in
       leb-true (length t) 16384 (unless-none (leb (length t) 16384) 1 0

@@ -13,10 +13,12 @@ use Rattle.theory.specs.Text.{Bytes, split-lines, ends-in-LF}
 use Rattle.theory.specs.ProgramText as P
 use Rattle.theory.specs.ProgramText.{clear, increment, copy, loop, while, Command, plain, opens, closes, indices, above, command}
 use Rattle.theory.specs.ProgramText.{command-of, listed}
-use Rattle.theory.specs.TurnedDown.{refused, answer, rule-1, rule-2, rule-3, line-fault, open-past, lines-fault}
-use Rattle.theory.specs.TurnedDown.{program-fault}
-use Rattle.theory.specs.TurnedDown.{text-lines, text-fault, read-text, read-list}
+use Rattle.theory.specs.TurnedDown.{refused, answer, rule-1, rule-2, rule-3, line-fault, open-past, lines-fault, text-lines}
+use Rattle.theory.specs.TurnedDown.{line-fault-under, lines-fault-under, program-fault-under, text-fault-under, read-text-under}
+use Rattle.theory.specs.TurnedDown.{read-list-under}
 use Rattle.theory.specs.declared.Refusal.{Refusal}
+use Rattle.theory.specs.declared.Setting.{Setting}
+use Rattle.theory.proofs.Settings.{line-outside, program-outside}
 use Rattle.theory.specs.ProgramText.{commands}
 use Rattle.theory.proofs.Nesting.{indexed, first-line, next-lines, faultless}
 use Rattle.command.specs.Lines.{limited, numbered}
@@ -66,51 +68,54 @@ capped-high (plain (copy i j)) h = omega arith
 capped-high (opens k i) h = omega arith
 capped-high (closes k i) h = omega arith
 
--- The verdict on a line does not change, and a line that passes does not change at all
-
-line-capped : (n : ℕ) (os : List P.Opening) (o : Option Command) → line-fault n os (capped-line o) ≡ line-fault n os o
-line-capped n os none = refl
-line-capped n os (some c) = go (leb (above (indices c)) 32) refl
-  where
-    go : (b : Bool) → leb (above (indices c)) 32 ≡ b → line-fault n os (some (capped c)) ≡ line-fault n os (some c)
-    go true e = rw (capped-low c (leb-true (above (indices c)) 32 e))
-    go false e = rw (e, lt-leb (above (indices (capped c))) 32 (capped-high c (leb-false (above (indices c)) 32 e)))
+-- A line that passes does not change, and the verdict on any line does not
 
 passes-capped : (n : ℕ) (os : List P.Opening) (o : Option Command) → line-fault n os o ≡ none → capped-line o ≡ o
 passes-capped n os none e = absurd (Option·none-ne-some _ (sym e))
 passes-capped n os (some c) e = ap some (capped-low c (indexed n os c e))
-
-lines-capped : (p : List (Option Command)) (n : ℕ) (os : List P.Opening) → lines-fault n os (map capped-line p) ≡ lines-fault n os p
-unfolding lines-fault
-lines-capped [] n [] = refl
-lines-capped [] n (o ∷ os) = refl
-lines-capped (c ∷ p) n os = rw (line-capped n os c) (go (line-fault n os c) refl (lines-capped p (suc n) (open-past n os c)))
-  where
-    go : (v : Option Refusal) → line-fault n os c ≡ v
-        → lines-fault (suc n) (open-past n os c) (map capped-line p) ≡ lines-fault (suc n) (open-past n os c) p
-        → or-else v (lines-fault (suc n) (open-past n os (capped-line c)) (map capped-line p))
-        ≡ or-else v (lines-fault (suc n) (open-past n os c) p)
-    go none e r = rw (passes-capped n os c e) r
-    go (some q) e r = refl
 
 all-capped : (p : List (Option Command)) (n : ℕ) (os : List P.Opening) → lines-fault n os p ≡ none → map capped-line p ≡ p
 all-capped [] n os e = refl
 all-capped (c ∷ p) n os e =
     rw (passes-capped n os c (first-line n os c p e), all-capped p (suc n) (open-past n os c) (next-lines n os c p e))
 
-program-capped : (p : List (Option Command)) → program-fault (map capped-line p) ≡ program-fault p
-unfolding program-fault rule-3
-program-capped p = rw (length-map p capped-line, lines-capped p 1 [])
+module _ (σ : Setting) where
+  line-capped : (n : ℕ) (os : List P.Opening) (o : Option Command) → line-fault-under σ n os (capped-line o) ≡ line-fault-under σ n os o
+  line-capped n os none = refl
+  line-capped n os (some c) = go (leb (above (indices c)) 32) refl
+    where
+      go : (b : Bool) → leb (above (indices c)) 32 ≡ b → line-fault-under σ n os (some (capped c)) ≡ line-fault-under σ n os (some c)
+      go true e = rw (capped-low c (leb-true (above (indices c)) 32 e))
+      go false e = rw (e, lt-leb (above (indices (capped c))) 32 (capped-high c (leb-false (above (indices c)) 32 e)))
 
--- What the numbers of a text are read as
-pub numbers-read : (t : Bytes) → read-list (all-numbers (split-lines t)) ≡ answer (program-fault (text-lines t)) (present (text-lines t))
-unfolding read-list commands
-numbers-read t = rw (listed-numbers (split-lines t), program-capped (text-lines t)) (go (program-fault (text-lines t)) refl)
-  where
-    go : (v : Option Refusal) → program-fault (text-lines t) ≡ v
-        → answer v (present (map capped-line (text-lines t))) ≡ answer v (present (text-lines t))
-    go none e = rw (all-capped (text-lines t) 1 [] (faultless (text-lines t) e .1))
-    go (some r) e = refl
+  lines-capped : (p : List (Option Command)) (n : ℕ) (os : List P.Opening)
+      → lines-fault-under σ n os (map capped-line p) ≡ lines-fault-under σ n os p
+  unfolding lines-fault-under
+  lines-capped [] n [] = refl
+  lines-capped [] n (o ∷ os) = refl
+  lines-capped (c ∷ p) n os = rw (line-capped n os c) (go (line-fault-under σ n os c) refl (lines-capped p (suc n) (open-past n os c)))
+    where
+      go : (v : Option Refusal) → line-fault-under σ n os c ≡ v
+          → lines-fault-under σ (suc n) (open-past n os c) (map capped-line p) ≡ lines-fault-under σ (suc n) (open-past n os c) p
+          → or-else v (lines-fault-under σ (suc n) (open-past n os (capped-line c)) (map capped-line p))
+          ≡ or-else v (lines-fault-under σ (suc n) (open-past n os c) p)
+      go none e r = rw (passes-capped n os c (line-outside σ n os c e)) r
+      go (some q) e r = refl
+
+  program-capped : (p : List (Option Command)) → program-fault-under σ (map capped-line p) ≡ program-fault-under σ p
+  unfolding program-fault-under rule-3
+  program-capped p = rw (length-map p capped-line, lines-capped p 1 [])
+
+  -- What the numbers of a text are read as
+  pub numbers-read : (t : Bytes)
+      → read-list-under σ (all-numbers (split-lines t)) ≡ answer (program-fault-under σ (text-lines t)) (present (text-lines t))
+  unfolding read-list-under commands
+  numbers-read t = rw (listed-numbers (split-lines t), program-capped (text-lines t)) (go (program-fault-under σ (text-lines t)) refl)
+    where
+      go : (v : Option Refusal) → program-fault-under σ (text-lines t) ≡ v
+          → answer v (present (map capped-line (text-lines t))) ≡ answer v (present (text-lines t))
+      go none e = rw (all-capped (text-lines t) 1 [] (faultless (text-lines t) (program-outside σ (text-lines t) e) .1))
+      go (some r) e = refl
 
 -- Rule 2's last byte
 pub last-byte : (t : Bytes) → (length t ≡ 0 → ⊥) → eqb (getD t (length t - 1) 0) 10 ≡ (eqb (length t) 0 || ends-in-LF t)
@@ -126,21 +131,22 @@ last-byte (b ∷ t) n =
 
 -- The rules of a text, in order
 
-module _ (t : Bytes) where
-  pub refused-1 : 16384 < length t → read-text t ≡ refused (record { number = 1; place = 0 })
-  unfolding read-text text-fault rule-1
+module _ (σ : Setting) (t : Bytes) where
+  pub refused-1 : 16384 < length t → read-text-under σ t ≡ refused (record { number = 1; place = 0 })
+  unfolding read-text-under text-fault-under rule-1
   refused-1 h = rw (lt-leb (length t) 16384 h)
 
   module _ (h : length t ≤ 16384) where
     pub refused-2 : (eqb (length t) 0 || ends-in-LF t) ≡ false
-        → read-text t ≡ refused (record { number = 2; place = length (split-lines t) })
-    unfolding read-text text-fault rule-1 rule-2
+        → read-text-under σ t ≡ refused (record { number = 2; place = length (split-lines t) })
+    unfolding read-text-under text-fault-under rule-1 rule-2
     refused-2 e = rw (le-leb (length t) 16384 h, e)
 
-    pub past-2 : (eqb (length t) 0 || ends-in-LF t) ≡ true → read-text t ≡ read-list (all-numbers (split-lines t))
-    unfolding read-text text-fault rule-1 rule-2
-    past-2 e = rw (le-leb (length t) 16384 h, e) (sym (numbers-read t))
+    pub past-2 : (eqb (length t) 0 || ends-in-LF t) ≡ true → read-text-under σ t ≡ read-list-under σ (all-numbers (split-lines t))
+    unfolding read-text-under text-fault-under rule-1 rule-2
+    past-2 e = rw (le-leb (length t) 16384 h, e) (sym (numbers-read σ t))
 
-  pub refused-3 : 512 < length (split-lines t) → read-list (all-numbers (split-lines t)) ≡ refused (record { number = 3; place = 513 })
-  unfolding program-fault rule-3
-  refused-3 h = rw (numbers-read t, length-map (split-lines t) command, lt-leb (length (split-lines t)) 512 h)
+  pub refused-3 : 512 < length (split-lines t)
+      → read-list-under σ (all-numbers (split-lines t)) ≡ refused (record { number = 3; place = 513 })
+  unfolding program-fault-under rule-3
+  refused-3 h = rw (numbers-read σ t, length-map (split-lines t) command, lt-leb (length (split-lines t)) 512 h)

@@ -1,4 +1,5 @@
-// Programs as text (document 01, "The program text"): read into a list of three numbers a command, by rules 1 to 8, and written from one.
+// Programs as text (document 01, "The program text"): read into a list of three numbers a command, by rules 1 to 8 and 20, and written from
+// one.
 mod lines; // lines.rt: the three numbers of every line
 mod spell; // spell.rt: the text of a list
 
@@ -7,6 +8,7 @@ pub use list::Program;
 pub use list::check_list;
 use output::put_bytes;
 use theory::Refusal;
+use theory::Setting;
 ghost use mathlib.Core.Path.{_≡_};
 ghost use mathlib.Core.Bool.{_||_};
 ghost use lib.Dec.{eqb};
@@ -40,11 +42,11 @@ fn is_ended(text: &[u8]) -> bool
     text[text.len() - 1] == b'\n'
 }
 
-// A text read into a lent list of three numbers a command: rules 1 to 8, then 19.
-pub fn read(text: &[u8], list: &mut [u8]) -> Checked
-    ensures { λ r. ⌜ r ≡ checked (read-program-into (now (list .entry)) (now (text .entry))) ⌝ }
+// A text read into a lent list of three numbers a command: rules 1 to 8 under a setting, then 19.
+pub fn read(setting: Setting, text: &[u8], list: &mut [u8]) -> Checked
+    ensures { λ r. ⌜ r ≡ checked (read-program-into setting (now (list .entry)) (now (text .entry))) ⌝ }
     ensures { λ _. ⌜ now (list .exit)
-        ≡ lent-after (now (list .entry)) (mapped list-of (read-program-into (now (list .entry)) (now (text .entry)))) ⌝ }
+        ≡ lent-after (now (list .entry)) (mapped list-of (read-program-into setting (now (list .entry)) (now (text .entry)))) ⌝ }
 {
     if Program::BYTES < text.len() {
         return refused(1, 0);
@@ -58,7 +60,7 @@ pub fn read(text: &[u8], list: &mut [u8]) -> Checked
         return refused(3, Program::LINES + 1);
     }
     let count = 3 * lines;
-    match check_list(&numbers[..count]) {
+    match check_list(setting, &numbers[..count]) {
         Checked::Refused(r) => Checked::Refused(r),
         Checked::Accepted(program) => {
             if list.len() < count {
@@ -70,12 +72,12 @@ pub fn read(text: &[u8], list: &mut [u8]) -> Checked
     }
 }
 
-// A list written into a lent text: rules 3 to 8, then 19.
-pub fn write(list: &[u8], text: &mut [u8]) -> Written
-    ensures { λ r. ⌜ r ≡ written (write-program-into (now (text .entry)) (now (list .entry))) ⌝ }
-    ensures { λ _. ⌜ now (text .exit) ≡ lent-after (now (text .entry)) (write-program-into (now (text .entry)) (now (list .entry))) ⌝ }
+// A list written into a lent text: rules 3 to 8 under a setting, then 19.
+pub fn write(setting: Setting, list: &[u8], text: &mut [u8]) -> Written
+    ensures { λ r. ⌜ r ≡ written (write-program-into setting (now (text .entry)) (now (list .entry))) ⌝ }
+    ensures { λ _. ⌜ now (text .exit) ≡ lent-after (now (text .entry)) (write-program-into setting (now (text .entry)) (now (list .entry))) ⌝ }
 {
-    match check_list(list) {
+    match check_list(setting, list) {
         Checked::Refused(r) => Written::Refused(r),
         Checked::Accepted(_) => {
             let size = spell::text_size(list);

@@ -10,11 +10,11 @@ use Rattle.list.proofs.check_list.Statement.{statement}
 use Rattle.list.proofs.check_list.Tie as tie
 
 abbrev Inv-loop : tie.InvT-loop
-Inv-loop list openings₀ count₀ lines₀ variables₀ openings count lines variables =
-    (length list ≤ 1536) × SoFar list lines variables count openings
+Inv-loop setting list openings₀ count₀ lines₀ variables₀ openings count lines variables =
+    (length list ≤ 1536) × SoFar setting list lines variables count openings
 
 abbrev μ-loop : tie.MeasureT-loop
-μ-loop list openings₀ count₀ lines₀ variables₀ openings count lines variables = length list - lines
+μ-loop setting list openings₀ count₀ lines₀ variables₀ openings count lines variables = length list - lines
 
 add-refused : tie.Need-add-refused Inv-loop μ-loop
 add-refused c = omega arith
@@ -23,10 +23,10 @@ refused-requires : tie.Need-refused-requires Inv-loop μ-loop
 refused-requires c κs = tt
 
 returns : tie.Need-returns Inv-loop μ-loop
-returns c = rw (c .refused .ensures) (too-many (c .before .before .before .args .list .now) (omega arith))
+returns c = let a = c .before .before .before .args in rw (c .refused .ensures) (too-many (a .setting) (a .list .now) (omega arith))
 
 loop-holds : tie.Need-loop-holds Inv-loop μ-loop
-loop-holds c = (omega arith, at-first (c .before .before .args .list .now))
+loop-holds c = let a = c .before .before .args in (omega arith, at-first (a .setting) (a .list .now))
 
 mul-loop : tie.Need-mul-loop Inv-loop μ-loop
 mul-loop c = omega arith
@@ -87,8 +87,8 @@ returns-2 c =
     let c3 = c .before .before .before in
     let c8 = c3 .before .before .before .before .before in
     let m = c8 .before .loop in
-    let list = c8 .before .before .before .before .args .list .now in
-    faulty list (m .lines) (m .variables) (m .count) (m .openings) (m .inv .1) (c8 .loop-test .taken) (c3 .judge .ensures)
+    let args = c8 .before .before .before .before .args in
+    faulty (args .setting) (args .list .now) (m .lines) (m .variables) (m .count) (m .openings) (m .inv .1) (c8 .loop-test .taken) (c3 .judge .ensures)
     (c .before .r .given .1) (m .inv .0)
 
 enum-known-open : tie.Need-enum-known-open Inv-loop μ-loop
@@ -108,8 +108,8 @@ loop-again c =
     let c5 = c .before .before .before .before .before in
     let c10 = c5 .before .before .before .before .before in
     let m = c10 .before .loop in
-    let list = c10 .before .before .before .before .args .list .now in
-    let so-far = onward list (m .lines) (m .variables) (m .count) (m .openings) (m .inv .1) (c10 .loop-test .taken) (c5 .judge .ensures) in
+    let args = c10 .before .before .before .before .args in
+    let so-far = onward (args .setting) (args .list .now) (m .lines) (m .variables) (m .count) (m .openings) (m .inv .1) (c10 .loop-test .taken) (c5 .judge .ensures) in
     (m .inv .0, so-far (c .before .before .before .«open» .given .1) _ (c .named2 .ensures ∙ rw (c .before .named .ensures)))
 
 mul-if2 : tie.Need-mul-if2 Inv-loop μ-loop
@@ -125,9 +125,9 @@ returns-3 : tie.Need-returns-3 Inv-loop μ-loop
 returns-3 c =
     let c3 = c .before .before .before in
     let m = c3 .loop in
-    let list = c3 .before .before .before .args .list .now in
+    let args = c3 .before .before .before .args in
     rw (c .refused2 .ensures)
-    (cut list (m .lines) (m .variables) (m .count) (m .openings) (m .inv .1) (omega arith) (omega arith)
+    (cut (args .setting) (args .list .now) (m .lines) (m .variables) (m .count) (m .openings) (m .inv .1) (omega arith) (omega arith)
     (m .inv .0))
 
 mul-last-2 : tie.Need-mul-last-2 Inv-loop μ-loop
@@ -143,10 +143,10 @@ returns-4 : tie.Need-returns-4 Inv-loop μ-loop
 returns-4 c =
     let c4 = c .before .before .before .before in
     let m = c4 .loop in
-    let list = c4 .before .before .before .args .list .now in
+    let args = c4 .before .before .before .args in
     c .ended .ensures
     ∙ ended-under _ (m .count) (m .openings)
-    ∙ whole list (m .lines) (m .variables) (m .count) (m .openings) (m .inv .1) (omega arith) (m .inv .0)
+    ∙ whole (args .setting) (args .list .now) (m .lines) (m .variables) (m .count) (m .openings) (m .inv .1) (omega arith) (m .inv .0)
 
 pub check-list-spec : {M : Type 1} → statement M
 check-list-spec =

@@ -13,8 +13,9 @@ refused-requires c κs = search needs
 
 returns : tie.Need-returns
 returns c =
-    let c4 = c .before .before .before .before in
-    rw (c .refused .ensures) (reads-refused (c4 .args .text .now) (c4 .args .list .now) _ (refused-1 (c4 .args .text .now) (omega arith)))
+    let a = c .before .before .before .before .args in
+    rw (c .refused .ensures)
+    (reads-refused (a .setting) (a .text .now) (a .list .now) _ (refused-1 (a .setting) (a .text .now) (omega arith)))
 
 slice-aggregate-read-lines : tie.Need-slice-aggregate-read-lines
 slice-aggregate-read-lines c = search needs
@@ -34,7 +35,7 @@ returns-2 c =
     let c9 = c4 .before .before .before .before .before in
     let a = c9 .args in
     let lines = c4 .read-lines in
-    rw (c .refused2 .ensures) (read-unended (a .text .now) (a .list .now) (lines .last .1 .0) (lines .result) (lines .ensures)
+    rw (c .refused2 .ensures) (read-unended (a .setting) (a .text .now) (a .list .now) (lines .last .1 .0) (lines .result) (lines .ensures)
     (omega arith) (sym (c .before .before .is-ended .ensures) ∙ not-true _ (c .before .if2 .taken)))
 
 add-refused : tie.Need-add-refused
@@ -50,7 +51,7 @@ returns-3 c =
     let a = c10 .args in
     let lines = c5 .read-lines in
     let ended = sym (c .before .before .before .is-ended .ensures) ∙ not-false _ (c .before .before .if2 .left) in
-    rw (c .refused3 .ensures) (read-long (a .text .now) (a .list .now) (lines .last .1 .0) (lines .result) (lines .ensures) (omega arith)
+    rw (c .refused3 .ensures) (read-long (a .setting) (a .text .now) (a .list .now) (lines .last .1 .0) (lines .result) (lines .ensures) (omega arith)
     ended (c .before .if3 .taken))
 
 mul-count : tie.Need-mul-count
@@ -66,7 +67,7 @@ slice-aggregate-check-list c =
     let a = c10 .args in
     let lines = c5 .read-lines in
     let ended = sym (c .before .before .before .is-ended .ensures) ∙ not-false _ (c .before .before .if2 .left) in
-    sym (part-length (a .text .now) (a .list .now) (lines .last .1 .0) (lines .result) (lines .ensures) (omega arith) ended
+    sym (part-length (a .setting) (a .text .now) (a .list .now) (lines .last .1 .0) (lines .result) (lines .ensures) (omega arith) ended
     (c .before .if3 .left))
 
 check-list-requires : tie.Need-check-list-requires
@@ -93,7 +94,7 @@ returns-4 c =
     let lines = c11 .read-lines in
     let ended = sym (c9 .is-ended .ensures) ∙ not-false _ (c8 .if2 .left) in
     rw (c .refused4 .ensures)
-    (read-no-room (a .text .now) (a .list .now) (lines .last .1 .0) (lines .result) (lines .ensures) (omega arith) ended
+    (read-no-room (a .setting) (a .text .now) (a .list .now) (lines .last .1 .0) (lines .result) (lines .ensures) (omega arith) ended
     (c7 .if3 .left) (c5 .check-list .ensures) (c .before .before .before .program .given .1) (c .before .if4 .taken))
 
 array-share-prefix-numbers-2 : tie.Need-array-share-prefix-numbers-2
@@ -109,7 +110,7 @@ slice-aggregate-put-bytes c =
     let a = c17 .args in
     let lines = c12 .read-lines in
     let ended = sym (c10 .is-ended .ensures) ∙ not-false _ (c9 .if2 .left) in
-    sym (part-length (a .text .now) (a .list .now) (lines .last .1 .0) (lines .result) (lines .ensures) (omega arith) ended (c8 .if3 .left))
+    sym (part-length (a .setting) (a .text .now) (a .list .now) (lines .last .1 .0) (lines .result) (lines .ensures) (omega arith) ended (c8 .if3 .left))
 
 put-bytes-requires : tie.Need-put-bytes-requires
 put-bytes-requires c κs = search needs
@@ -124,7 +125,7 @@ returns-5 c =
     let a = c14 .args in
     let lines = c9 .read-lines in
     let ended = sym (c7 .is-ended .ensures) ∙ not-false _ (c6 .if2 .left) in
-    read-fault (a .text .now) (a .list .now) (lines .last .1 .0) (lines .result) (lines .ensures) (omega arith) ended
+    read-fault (a .setting) (a .text .now) (a .list .now) (lines .last .1 .0) (lines .result) (lines .ensures) (omega arith) ended
     (c5 .if3 .left) (c .before .before .before .check-list .ensures) (c .before .r .given .1)
 
 same-length : tie.Need-same-length
@@ -143,7 +144,7 @@ returns-6 c =
     let a = c20 .args in
     let lines = c15 .read-lines in
     let ended = sym (c13 .is-ended .ensures) ∙ not-false _ (c12 .if2 .left) in
-    read-all (a .text .now) (a .list .now) (lines .last .1 .0) (lines .result) (lines .ensures) (omega arith) ended
+    read-all (a .setting) (a .text .now) (a .list .now) (lines .last .1 .0) (lines .result) (lines .ensures) (omega arith) ended
     (c11 .if3 .left) (c9 .check-list .ensures) (c7 .program .given .1)
     (c5 .if4 .left) (c .before .before .put-bytes .ensures)
 
