@@ -16,11 +16,13 @@ use Rattle.theory.specs.ProgramText as P
 use Rattle.theory.specs.ProgramText.{Command, plain, opens, closes, indices, above}
 use Rattle.theory.specs.Word.{Entry, symbol-of, is-symbol}
 use Rattle.theory.specs.Machines.{is-limited}
-use Rattle.theory.specs.TurnedDown.{same-kind, refuse, unless, rule-1, rule-2, rule-3, pair-fault, line-fault, open-past, lines-fault}
-use Rattle.theory.specs.TurnedDown.{program-fault, text-lines, text-fault, rule-11, first-failing, rule-12, entry-size, entry-fault}
+use Rattle.theory.specs.TurnedDown.{same-kind, refuse, unless, rule-1, rule-2, rule-3, rule-20, pair-fault, line-fault-under, open-past, lines-fault-under}
+use Rattle.theory.specs.TurnedDown.{program-fault-under, text-lines, text-fault-under, rule-11, first-failing, rule-12, entry-size, entry-fault}
 use Rattle.theory.specs.TurnedDown.{first-along, rule-13, total, rule-14, names-register, lacks, rule-15, word-entries, word-fault}
 use Rattle.theory.specs.TurnedDown.{table-rule-11, bad-entry, table-fault}
 use Rattle.theory.specs.declared.Refusal.{Refusal}
+use Rattle.theory.specs.declared.Setting.{Setting}
+use Rattle.theory.specs.declared.Setting.the-variants.{Any, LoopOnly}
 use Rattle.theory.proofs.Faults.{unless-none, and-second, none-first, none-second, given-some}
 use Rattle.theory.proofs.Words.{spell-of-entries, total-length, formed-of-table, table-good}
 
@@ -65,10 +67,19 @@ pair-low n os (opens k i) h = low-unless (ltb (length os) Limits.most-open) 6 n 
 pair-low n [] (closes k i) h = low-at 7 n (omega arith) h
 pair-low n (o ∷ os) (closes k i) h = low-unless (same-kind k (o .kind) && eqb i (o .index)) 7 n (omega arith) h
 
-line-low : (n : ℕ) (os : List P.Opening) (c : Option Command) → n ≤ 600000 → Low (line-fault n os c)
-line-low n os none h = low-at 4 n (omega arith) h
-line-low n os (some c) h = low-or _ _ (low-unless (leb (above (indices c)) (suc Limits.most-index)) 5 n (omega arith) h) (λ e.
-    pair-low n os c h)
+while-low : (σ : Setting) (n : ℕ) (c : Command) → n ≤ 600000 → Low (rule-20 σ n c)
+while-low Any n c h = low-none
+while-low LoopOnly n (plain c) h = low-none
+while-low LoopOnly n (opens loop i) h = low-none
+while-low LoopOnly n (opens while i) h = low-at 20 n (omega arith) h
+while-low LoopOnly n (closes loop i) h = low-none
+while-low LoopOnly n (closes while i) h = low-at 20 n (omega arith) h
+
+line-low : (σ : Setting) (n : ℕ) (os : List P.Opening) (c : Option Command) → n ≤ 600000 → Low (line-fault-under σ n os c)
+line-low σ n os none h = low-at 4 n (omega arith) h
+line-low σ n os (some c) h =
+    low-or _ _ (low-unless (leb (above (indices c)) (suc Limits.most-index)) 5 n (omega arith) h)
+    (λ e. low-or _ _ (while-low σ n c h) (λ e. pair-low n os c h))
 
 abbrev LowLines : List P.Opening → Type 0
 LowLines os = EachOf (λ o. o .line ≤ 600000) os
@@ -80,37 +91,37 @@ open-low n os (some (opens k i)) h l = (h, l)
 open-low n [] (some (closes k i)) h l = tt
 open-low n (o ∷ os) (some (closes k i)) h l = l .1
 
-lines-low : (n : ℕ) (os : List P.Opening) (p : List (Option Command)) → n + length p ≤ 600000 → LowLines os → Low (lines-fault n os p)
-unfolding lines-fault
-lines-low n [] [] h l = low-none
-lines-low n (o ∷ os) [] h l = low-at 8 (o .line) (omega arith) (l .0)
-lines-low n [] (c ∷ p) h l =
-    low-or _ _ (line-low n [] c (omega arith)) (λ e. lines-low (suc n) (open-past n [] c) p (omega arith) (open-low n [] c (omega arith) l))
-lines-low n (o ∷ os) (c ∷ p) h l =
-    low-or _ _ (line-low n (o ∷ os) c (omega arith))
-    (λ e. lines-low (suc n) (open-past n (o ∷ os) c) p (omega arith) (open-low n (o ∷ os) c (omega arith) l))
+lines-low : (σ : Setting) (n : ℕ) (os : List P.Opening) (p : List (Option Command)) → n + length p ≤ 600000 → LowLines os → Low (lines-fault-under σ n os p)
+unfolding lines-fault-under
+lines-low σ n [] [] h l = low-none
+lines-low σ n (o ∷ os) [] h l = low-at 8 (o .line) (omega arith) (l .0)
+lines-low σ n [] (c ∷ p) h l =
+    low-or _ _ (line-low σ n [] c (omega arith)) (λ e. lines-low σ (suc n) (open-past n [] c) p (omega arith) (open-low n [] c (omega arith) l))
+lines-low σ n (o ∷ os) (c ∷ p) h l =
+    low-or _ _ (line-low σ n (o ∷ os) c (omega arith))
+    (λ e. lines-low σ (suc n) (open-past n (o ∷ os) c) p (omega arith) (open-low n (o ∷ os) c (omega arith) l))
 
-pub few-lines : (p : List (Option Command)) → program-fault p ≡ none → length p ≤ 512
-unfolding program-fault rule-3
-few-lines p e = leb-true (length p) 512 (unless-none (leb (length p) 512) 3 513 (none-first _ _ e))
+pub few-lines : (σ : Setting) (p : List (Option Command)) → program-fault-under σ p ≡ none → length p ≤ 512
+unfolding program-fault-under rule-3
+few-lines σ p e = leb-true (length p) 512 (unless-none (leb (length p) 512) 3 513 (none-first _ _ e))
 
-pub program-low : (p : List (Option Command)) → Low (program-fault p)
-unfolding program-fault rule-3
-program-low p =
+pub program-low : (σ : Setting) (p : List (Option Command)) → Low (program-fault-under σ p)
+unfolding program-fault-under rule-3
+program-low σ p =
     low-or _ _ (low-unless (leb (length p) 512) 3 513 (omega arith) (omega arith))
-    (λ e. let few = leb-true (length p) 512 (unless-none (leb (length p) 512) 3 513 e) in lines-low 1 [] p (omega arith) tt)
+    (λ e. let few = leb-true (length p) 512 (unless-none (leb (length p) 512) 3 513 e) in lines-low σ 1 [] p (omega arith) tt)
 
-pub few-bytes : (t : Bytes) → text-fault t ≡ none → length t ≤ 16384
-unfolding text-fault rule-1
-few-bytes t e = leb-true (length t) 16384 (unless-none (leb (length t) 16384) 1 0 (none-first _ _ e))
+pub few-bytes : (σ : Setting) (t : Bytes) → text-fault-under σ t ≡ none → length t ≤ 16384
+unfolding text-fault-under rule-1
+few-bytes σ t e = leb-true (length t) 16384 (unless-none (leb (length t) 16384) 1 0 (none-first _ _ e))
 
-pub text-low : (t : Bytes) → Low (text-fault t)
-unfolding text-fault rule-1 rule-2
-text-low t =
+pub text-low : (σ : Setting) (t : Bytes) → Low (text-fault-under σ t)
+unfolding text-fault-under rule-1 rule-2
+text-low σ t =
     low-or _ _ (low-unless (leb (length t) 16384) 1 0 (omega arith) (omega arith))
     (λ e. let few = leb-true (length t) 16384 (unless-none (leb (length t) 16384) 1 0 e) in
     low-or _ _ (low-unless (eqb (length t) 0 || ends-in-LF t) 2 (length (split-lines t)) (omega arith) (omega (arith, lines-few t)))
-    (λ f. program-low (text-lines t)))
+    (λ f. program-low σ (text-lines t)))
 
 -- Words
 

@@ -17,8 +17,8 @@ use Rattle.theory.specs.Translation.{word-of, word-text}
 use Rattle.theory.specs.Machines.{SourceState, Memory, Position, is-memory, run-source, run-word}
 use Rattle.theory.specs.TurnedDown.{Answer, refused, unless, answer, after, mapped, lend, is-source}
 use Rattle.theory.specs.TurnedDown.{rule-9, rule-10, rule-15, rule-19}
-use Rattle.theory.specs.TurnedDown.{text-fault, text-lines, program-fault, word-fault, word-entries, table-fault, instructions}
-use Rattle.theory.specs.TurnedDown.{next-byte, next-entry, read-text, read-list, read-word, read-table, read-word-for, read-table-for}
+use Rattle.theory.specs.TurnedDown.{text-fault-under, text-lines, program-fault-under, word-fault, word-entries, table-fault, instructions}
+use Rattle.theory.specs.TurnedDown.{next-byte, next-entry, read-text-under, read-list-under, read-word, read-table, read-word-for, read-table-for}
 use Rattle.theory.specs.TurnedDown.{read-program-into, write-program-into, translate-into, run-from}
 use Rattle.theory.specs.TurnedDown.{read-word-into, write-word-into, run-on}
 use Rattle.theory.specs.Basics.{or-else, present}
@@ -26,6 +26,9 @@ use Rattle.theory.specs.Claims.{Accepted}
 use Rattle.theory.specs.declared.End.{End}
 use Rattle.theory.specs.declared.End.the-variants.{Halted, Strayed, Spent, Full}
 use Rattle.theory.specs.declared.Refusal.{Refusal}
+use Rattle.theory.specs.declared.Setting.{Setting}
+use Rattle.theory.specs.declared.Setting.the-variants.{Any}
+use Rattle.theory.proofs.Settings.{read-text-outside, read-list-outside}
 use Rattle.theory.proofs.Budgets.{steps-within}
 use Rattle.theory.proofs.Nesting.{reads-accepted}
 use Rattle.theory.proofs.Sizes.{words-fit}
@@ -80,41 +83,41 @@ module _ (p : List Command) (accepted : Accepted p) where
         low = omega (arith, sized .few-symbols, length-map (spell (word-of p)) byte-of);
       }
 
-text-program : (t : Bytes) → text-fault t ≡ none → Accepted (present (text-lines t))
-unfolding read-text
-text-program t e = reads-accepted .0 t (present (text-lines t)) (rw e)
+text-program : (σ : Setting) (t : Bytes) → text-fault-under σ t ≡ none → Accepted (present (text-lines t))
+unfolding read-text-under
+text-program σ t e = reads-accepted .0 t (present (text-lines t)) (read-text-outside σ t (present (text-lines t)) (rw e))
 
-list-program : (l : Bytes) → program-fault (listed l) ≡ none → Accepted (present (listed l))
-unfolding read-list commands
-list-program l e = reads-accepted .1 l (present (listed l)) (rw e)
+list-program : (σ : Setting) (l : Bytes) → program-fault-under σ (listed l) ≡ none → Accepted (present (listed l))
+unfolding read-list-under commands
+list-program σ l e = reads-accepted .1 l (present (listed l)) (read-list-outside σ l (present (listed l)) (rw e))
 
-read-program-fits : (list text : Bytes) → Fit (fields program-fields (read-program-into list text))
-unfolding read-program-into read-text
-read-program-fits list text =
+read-program-fits : (σ : Setting) (list text : Bytes) → Fit (fields program-fields (read-program-into σ list text))
+unfolding read-program-into read-text-under
+read-program-fits σ list text =
     let p = present (text-lines text) in
-    fit-after program-fields (text-fault text) p (λ q. answer (rule-19 list (list-of q)) q) (text-low text)
-    (λ e. fit-answer program-fields (rule-19 list (list-of p)) p (no-room-low list (list-of p)) (λ f. program-fit p (text-program text e)))
+    fit-after program-fields (text-fault-under σ text) p (λ q. answer (rule-19 list (list-of q)) q) (text-low σ text)
+    (λ e. fit-answer program-fields (rule-19 list (list-of p)) p (no-room-low list (list-of p)) (λ f. program-fit p (text-program σ text e)))
 
-write-program-fits : (text list : Bytes) → Fit (fields count-fields (write-program-into text list))
-unfolding write-program-into read-list commands
-write-program-fits text list =
+write-program-fits : (σ : Setting) (text list : Bytes) → Fit (fields count-fields (write-program-into σ text list))
+unfolding write-program-into read-list-under commands
+write-program-fits σ text list =
     let p = present (listed list) in
-    fit-lent (program-fault (listed list)) p text-of text (program-low (listed list))
-    (λ e. omega (arith, few-bytes (text-of p) (text-accepted p (list-program list e))))
+    fit-lent (program-fault-under σ (listed list)) p text-of text (program-low σ (listed list))
+    (λ e. omega (arith, few-bytes Any (text-of p) (text-accepted p (list-program σ list e))))
 
-translate-fits : (word text : Bytes) → Fit (fields word-fields (translate-into word (read-text text)))
-unfolding translate-into read-text
-translate-fits word text =
+translate-fits : (σ : Setting) (word text : Bytes) → Fit (fields word-fields (translate-into word (read-text-under σ text)))
+unfolding translate-into read-text-under
+translate-fits σ word text =
     let p = present (text-lines text) in
-    fit-after word-fields (text-fault text) p (λ q. answer (rule-19 word (word-text q)) q) (text-low text)
-    (λ e. fit-answer word-fields (rule-19 word (word-text p)) p (no-room-low word (word-text p)) (λ f. word-fit p (text-program text e)))
+    fit-after word-fields (text-fault-under σ text) p (λ q. answer (rule-19 word (word-text q)) q) (text-low σ text)
+    (λ e. fit-answer word-fields (rule-19 word (word-text p)) p (no-room-low word (word-text p)) (λ f. word-fit p (text-program σ text e)))
 
-translate-list-fits : (word list : Bytes) → Fit (fields word-fields (translate-into word (read-list list)))
-unfolding translate-into read-list commands
-translate-list-fits word list =
+translate-list-fits : (σ : Setting) (word list : Bytes) → Fit (fields word-fields (translate-into word (read-list-under σ list)))
+unfolding translate-into read-list-under commands
+translate-list-fits σ word list =
     let p = present (listed list) in
-    fit-after word-fields (program-fault (listed list)) p (λ q. answer (rule-19 word (word-text q)) q) (program-low (listed list))
-    (λ e. fit-answer word-fields (rule-19 word (word-text p)) p (no-room-low word (word-text p)) (λ f. word-fit p (list-program list e)))
+    fit-after word-fields (program-fault-under σ (listed list)) p (λ q. answer (rule-19 word (word-text q)) q) (program-low σ (listed list))
+    (λ e. fit-answer word-fields (rule-19 word (word-text p)) p (no-room-low word (word-text p)) (λ f. word-fit p (list-program σ list e)))
 
 -- Runs
 end-small : (e : End) → end-number e < 2 ^ 8
@@ -171,17 +174,17 @@ run-fits m p budget b o t l = go (is-memory m) o l
     go true (some r) l = fit-refused (end-fields {S = W.State}) r l
 
 pub answers-fit : AnswersFit
-unfolding read-text read-list commands read-word-for read-table-for
+unfolding read-text-under read-list-under commands read-word-for read-table-for
 answers-fit =
     record {
       read-program = read-program-fits;
       write-program = write-program-fits;
       translate = translate-fits;
       translate-list = translate-list-fits;
-      runs-text = λ s budget b text. fit-after end-fields (text-fault text) (present (text-lines text)) (run-from s budget) (text-low text)
+      runs-text = λ σ s budget b text. fit-after end-fields (text-fault-under σ text) (present (text-lines text)) (run-from s budget) (text-low σ text)
           (λ e. from-fits s budget b (present (text-lines text)));
-      runs-list = λ s budget b list. fit-after end-fields (program-fault (listed list)) (present (listed list)) (run-from s budget)
-          (program-low (listed list)) (λ e. from-fits s budget b (present (listed list)));
+      runs-list = λ σ s budget b list. fit-after end-fields (program-fault-under σ (listed list)) (present (listed list)) (run-from s budget)
+          (program-low σ (listed list)) (λ e. from-fits s budget b (present (listed list)));
       read-word = read-word-fits;
       write-word = write-word-fits;
       runs-word = λ m p budget b word. run-fits m p budget b (or-else (word-fault word) (rule-15 next-byte (m .count) (word-entries word)))

@@ -9,9 +9,10 @@ use Rattle.theory.specs.Runs.{Outcome}
 use Rattle.theory.specs.Word.{Entry}
 use Rattle.theory.specs.Translation.{word-of, word-text}
 use Rattle.theory.specs.Machines.{SourceState, Memory, Position}
-use Rattle.theory.specs.TurnedDown.{Answer, done, refused, read-text, read-list, read-word-for, read-table-for}
+use Rattle.theory.specs.TurnedDown.{Answer, done, refused, read-text-under, read-list-under, read-word-for, read-table-for}
 use Rattle.theory.specs.TurnedDown.{read-program-into, write-program-into, translate-into, run-program}
 use Rattle.theory.specs.TurnedDown.{read-word-into, write-word-into, run-on}
+use Rattle.theory.specs.declared.Setting.{Setting}
 use Rattle.packing.specs.Packed.{pack, end-number, packed, commands, sizes, count, ending}
 
 -- What a number says, field by field, as the header reads it: bits 56 to 63, bits 32 to 47, bits 0 to 31
@@ -57,16 +58,16 @@ pub record ReadsBack : Type 1 where
   pub list : {A : Type 0} (a : Answer (List A)) → Fit (fields count-fields a) → unpack (packed count a) ≡ fields count-fields a
   pub run : {S : Type 0} (a : Answer (Outcome S)) → Fit (fields end-fields a) → unpack (packed ending a) ≡ fields end-fields a
 
--- Every answer of an entry fits: of programs handed in as text or as list, of words and tables, and of runs whose budget has 32 bits
+-- Every answer of an entry fits: of programs handed in as text or as list under a setting, of words and tables, and of runs whose budget has 32 bits
 pub record AnswersFit : Type 0 where
-  pub read-program : (list text : Bytes) → Fit (fields program-fields (read-program-into list text))
-  pub write-program : (text list : Bytes) → Fit (fields count-fields (write-program-into text list))
-  pub translate : (word text : Bytes) → Fit (fields word-fields (translate-into word (read-text text)))
-  pub translate-list : (word list : Bytes) → Fit (fields word-fields (translate-into word (read-list list)))
-  pub runs-text : (s : SourceState) (budget : ℕ) → budget < 2 ^ 32 → (text : Bytes)
-      → Fit (fields end-fields (run-program (read-text text) s budget))
-  pub runs-list : (s : SourceState) (budget : ℕ) → budget < 2 ^ 32 → (list : Bytes)
-      → Fit (fields end-fields (run-program (read-list list) s budget))
+  pub read-program : (σ : Setting) (list text : Bytes) → Fit (fields program-fields (read-program-into σ list text))
+  pub write-program : (σ : Setting) (text list : Bytes) → Fit (fields count-fields (write-program-into σ text list))
+  pub translate : (σ : Setting) (word text : Bytes) → Fit (fields word-fields (translate-into word (read-text-under σ text)))
+  pub translate-list : (σ : Setting) (word list : Bytes) → Fit (fields word-fields (translate-into word (read-list-under σ list)))
+  pub runs-text : (σ : Setting) (s : SourceState) (budget : ℕ) → budget < 2 ^ 32 → (text : Bytes)
+      → Fit (fields end-fields (run-program (read-text-under σ text) s budget))
+  pub runs-list : (σ : Setting) (s : SourceState) (budget : ℕ) → budget < 2 ^ 32 → (list : Bytes)
+      → Fit (fields end-fields (run-program (read-list-under σ list) s budget))
   pub read-word : (kinds operands : List ℕ) (word : Bytes) → Fit (fields count-fields (read-word-into kinds operands word))
   pub write-word : (word : Bytes) (table : List Entry) → Fit (fields count-fields (write-word-into word table))
   pub runs-word : (m : Memory) (p : Position) (budget : ℕ) → budget < 2 ^ 32 → (word : Bytes)

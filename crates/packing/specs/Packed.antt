@@ -1,6 +1,9 @@
--- The one number that each entry hands back: what came of the call, with its counts, or with a refusal's number and place.
+-- The number that tells a setting, and the one number that each entry hands back: what came of the call, with its counts, or with a
+-- refusal's number and place.
+use mathlib.Core.Bool.{cond}
 use mathlib.Core.List.{List}
 use Prim.Native.Nat.{ℕ, _+_, _*_, _%_, _^_}
+use lib.Dec.{eqb}
 use lib.ListN.{length}
 use Rattle.theory.specs.ProgramText.{Command, variables}
 use Rattle.theory.specs.Runs.{Outcome}
@@ -8,6 +11,12 @@ use Rattle.theory.specs.Translation.{word-of, word-text}
 use Rattle.theory.specs.TurnedDown.{Answer, done, refused}
 use Rattle.theory.specs.declared.End.{End}
 use Rattle.theory.specs.declared.End.the-variants.{Halted, Strayed, Spent, Full}
+use Rattle.theory.specs.declared.Setting.{Setting}
+use Rattle.theory.specs.declared.Setting.the-variants.{Any, LoopOnly}
+
+-- 0 is outside the LOOP-only setting; 1, and any number that is not known, is under it
+abbrev pub setting-of : ℕ → Setting
+setting-of n = cond (eqb n 0) Any LoopOnly
 
 -- Bits 56 to 63 say what came of the call, bits 32 to 47 hold one count and bits 0 to 31 another
 unfoldable pub pack : ℕ → ℕ → ℕ → ℕ

@@ -1,10 +1,22 @@
-// Answers for the C host as one number (specs/Packed): what came of a call, with its counts, or with a refusal's number and place.
+// Numbers for the C host (specs/Packed). A setting is told by one, and an answer is one: what came of a call, with its counts, or with a
+// refusal's number and place.
 use theory::End;
 use theory::Refusal;
+use theory::Setting;
 ghost use mathlib.Core.Path.{_≡_};
-ghost use Rattle.packing.specs.Packed.{pack, end-number};
+ghost use Rattle.packing.specs.Packed.{setting-of, pack, end-number};
 ghost use Rattle.packing.specs.Answered.{program-read, program-written, word-read, word-written, translated};
 ghost use Rattle.packing.specs.Answered.{source-ended, word-ended};
+
+// The setting that a number tells. One that is not known is on the strict side.
+pub fn setting(number: u32) -> Setting
+    ensures { λ r. ⌜ r ≡ setting-of number ⌝ }
+{
+    match number {
+        0 => Setting::Any,
+        _ => Setting::LoopOnly,
+    }
+}
 
 // What came of the call in bits 56 to 63, one count in bits 32 to 47 and another in bits 0 to 31.
 fn pack(what: u8, high: usize, low: usize) -> u64

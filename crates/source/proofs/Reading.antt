@@ -9,10 +9,12 @@ use lib.ListN.{length, take, drop}
 use lib.Seq.{take-at}
 use Rattle.theory.specs.TurnedDown.{read-program-into}
 use Rattle.theory.specs.ProgramText.{Command, variables, list-of, commands}
-use Rattle.theory.specs.TurnedDown.{Answer, done, refused, answer, after, mapped, read-text, read-list, rule-19, lent-after}
+use Rattle.theory.specs.TurnedDown.{Answer, done, refused, answer, after, mapped, read-text-under, read-list, read-list-under, rule-19, lent-after}
 use Rattle.theory.specs.Claims.{Accepted}
 use Rattle.theory.specs.declared.Refusal.{Refusal}
+use Rattle.theory.specs.declared.Setting.{Setting}
 use Rattle.theory.proofs.Nesting.{short, list-read, reads-accepted}
+use Rattle.theory.proofs.Settings.{read-text-outside, read-list-outside}
 use Rattle.theory.proofs.Lists.{commands-list, lists-round-trip}
 use Rattle.list.specs.Answers.{program-of, checked}
 use Rattle.list.specs.declared.Program.{Program}
@@ -48,40 +50,47 @@ read-holds l p e =
     let same : commands l ≡ p = read-program l p e in
     record { whole = rw same (lists-round-trip .1 l p e); accepted = rw same (reads-accepted .1 l p e) }
 
-pub read-given : (l : List ℕ) (x : Program) (a : AcceptedAs (read-list l) x) → Given l (x .lines) (x .variables)
-read-given l x a =
-    let same : commands l ≡ a .commands = read-program l (a .commands) (a .is-done) in
-    record {
-      holds = read-holds l (a .commands) (a .is-done);
-      lines-are = rw same (a .lines-are);
-      variables-are = rw same (a .variables-are);
-    }
+-- A list that is accepted under a setting
+module _ (σ : Setting) (l : List ℕ) (x : Program) (a : AcceptedAs (read-list-under σ l) x) where
+  outside : read-list l ≡ done (a .commands)
+  outside = read-list-outside σ l (a .commands) (a .is-done)
+
+  pub list-program : commands l ≡ a .commands
+  list-program = read-program l (a .commands) outside
+
+  pub read-given : Given l (x .lines) (x .variables)
+  read-given =
+      record {
+        holds = read-holds l (a .commands) outside;
+        lines-are = rw list-program (a .lines-are);
+        variables-are = rw list-program (a .variables-are);
+      }
 
 -- Texts. A buffer for 512 commands has room for any accepted program
 
-module _ (lent : List ℕ) (t : List ℕ) (size : length lent ≡ 1536) where
+module _ (σ : Setting) (lent : List ℕ) (t : List ℕ) (size : length lent ≡ 1536) where
   room : (p : List Command) → Accepted p → rule-19 lent (list-of p) ≡ none
   unfolding rule-19
   room p h =
       let few : length (list-of p) ≤ length lent = omega (arith, list-length p, short p h) in
       rw (le-leb (length (list-of p)) (length lent) few)
 
-  pub buffer-read : read-program-into lent t ≡ read-text t
+  pub buffer-read : read-program-into σ lent t ≡ read-text-under σ t
   unfolding read-program-into
-  buffer-read = go (read-text t) refl
+  buffer-read = go (read-text-under σ t) refl
     where
-      go : (a : Answer (List Command)) → read-text t ≡ a → after a (λ p. answer (rule-19 lent (list-of p)) p) ≡ a
-      go (done p) e = rw (room p (reads-accepted .0 t p e))
+      go : (a : Answer (List Command)) → read-text-under σ t ≡ a → after a (λ p. answer (rule-19 lent (list-of p)) p) ≡ a
+      go (done p) e = rw (room p (reads-accepted .0 t p (read-text-outside σ t p e)))
       go (refused r) e = refl
 
   -- What stands in the buffer then, of an accepted text
-  module _ (x : Program) (a : AcceptedAs (read-text t) x) (last : List ℕ)
-      (stored : last ≡ lent-after lent (mapped list-of (read-program-into lent t))) where
+  module _ (x : Program) (a : AcceptedAs (read-text-under σ t) x) (last : List ℕ)
+      (stored : last ≡ lent-after lent (mapped list-of (read-program-into σ lent t))) where
     abbrev p : List Command
     p = a .commands
 
     accepts : Accepted p
-    accepts = reads-accepted .0 t p (a .is-done)
+    accepts = reads-accepted .0 t p (read-text-outside σ t p (a .is-done))
 
     pub numbers-few : 3 * x .lines ≤ 1536
     numbers-few = omega (arith, short p accepts, a .lines-are)

@@ -10,7 +10,7 @@ pub use answers::Run;
 pub use answers::State;
 ghost use mathlib.Core.Path.{_≡_};
 ghost use Prim.Native.Nat.{min};
-ghost use Rattle.theory.specs.TurnedDown.{read-text, read-list, run-from, run-program};
+ghost use Rattle.theory.specs.TurnedDown.{read-text-under, read-list-under, run-from, run-program};
 ghost use Rattle.theory.specs.ProgramText.{commands};
 ghost use Rattle.source.specs.Answers.{source-state, HandsBack};
 ghost use Rattle.source.specs.Lines.{Given};
@@ -18,6 +18,7 @@ use crate::answers::refused;
 use program::Checked;
 use program::Program;
 use theory::Refusal;
+use theory::Setting;
 
 // Rule 9.
 const NONE_OF_ITS_STATES: Refusal = Refusal {
@@ -73,22 +74,22 @@ fn run_accepted(list: &[u8], lines: usize, variables: usize, state: State, budge
     }
 }
 
-// A run of a program handed in as a list: rules 3 to 8, and then 9.
-pub fn run_list(list: &[u8], state: State, budget: u32) -> Run
-    ensures { λ r. ⌜ HandsBack state (run-program (read-list (now (list .entry))) (source-state state) budget) r ⌝ }
+// A run of a program handed in as a list: rules 3 to 8 under a setting, and then 9.
+pub fn run_list(setting: Setting, list: &[u8], state: State, budget: u32) -> Run
+    ensures { λ r. ⌜ HandsBack state (run-program (read-list-under setting (now (list .entry))) (source-state state) budget) r ⌝ }
 {
-    match program::check_list(list) {
+    match program::check_list(setting, list) {
         Checked::Accepted(p) => run_accepted(list, p.lines, p.variables, state, budget),
         Checked::Refused(refusal) => refused(state, refusal),
     }
 }
 
-// A run of a program handed in as text: rules 1 to 8, and then 9.
-pub fn run_text(text: &[u8], state: State, budget: u32) -> Run
-    ensures { λ r. ⌜ HandsBack state (run-program (read-text (now (text .entry))) (source-state state) budget) r ⌝ }
+// A run of a program handed in as text: rules 1 to 8 under a setting, and then 9.
+pub fn run_text(setting: Setting, text: &[u8], state: State, budget: u32) -> Run
+    ensures { λ r. ⌜ HandsBack state (run-program (read-text-under setting (now (text .entry))) (source-state state) budget) r ⌝ }
 {
     let mut list = [0u8; Program::NUMBERS];
-    match program::read(text, &mut list) {
+    match program::read(setting, text, &mut list) {
         Checked::Accepted(p) => {
             let numbers = 3 * p.lines;
             run_accepted(&list[..numbers], p.lines, p.variables, state, budget)

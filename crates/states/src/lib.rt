@@ -2,25 +2,26 @@
 mod numbers;
 
 use source::Ended;
-ghost use Rattle.theory.specs.TurnedDown.{read-text, read-list};
+use theory::Setting;
+ghost use Rattle.theory.specs.TurnedDown.{read-text-under, read-list-under};
 ghost use Rattle.states.specs.Numbers.{RunsLent};
 
-// A program handed in as text: rules 1 to 8, then 9, which another number of numbers is too.
-pub fn run_text(text: &[u8], state: &mut [u32], budget: u32) -> Ended
-    ensures { λ r. ⌜ RunsLent (read-text (now (text .entry))) (now (state .entry)) budget r (now (state .exit)) ⌝ }
+// A program handed in as text: rules 1 to 8 under a setting, then 9, which another number of numbers is too.
+pub fn run_text(setting: Setting, text: &[u8], state: &mut [u32], budget: u32) -> Ended
+    ensures { λ r. ⌜ RunsLent (read-text-under setting (now (text .entry))) (now (state .entry)) budget r (now (state .exit)) ⌝ }
 {
-    let run = source::run_text(text, numbers::state_of(&*state), budget);
+    let run = source::run_text(setting, text, numbers::state_of(&*state), budget);
     let next = run.state;
     let ended = run.ended;
     numbers::put_state(next, &mut *state);
     ended
 }
 
-// A program handed in as a list: rules 3 to 8, then 9.
-pub fn run_list(list: &[u8], state: &mut [u32], budget: u32) -> Ended
-    ensures { λ r. ⌜ RunsLent (read-list (now (list .entry))) (now (state .entry)) budget r (now (state .exit)) ⌝ }
+// A program handed in as a list: rules 3 to 8 under a setting, then 9.
+pub fn run_list(setting: Setting, list: &[u8], state: &mut [u32], budget: u32) -> Ended
+    ensures { λ r. ⌜ RunsLent (read-list-under setting (now (list .entry))) (now (state .entry)) budget r (now (state .exit)) ⌝ }
 {
-    let run = source::run_list(list, numbers::state_of(&*state), budget);
+    let run = source::run_list(setting, list, numbers::state_of(&*state), budget);
     let next = run.state;
     let ended = run.ended;
     numbers::put_state(next, &mut *state);

@@ -10,10 +10,12 @@ use Rattle.theory.specs.TurnedDown.{translate-into}
 use Rattle.theory.specs.Text.{Bytes}
 use Rattle.theory.specs.ProgramText.{Command, list-of, commands}
 use Rattle.theory.specs.Translation.{word-text}
-use Rattle.theory.specs.TurnedDown.{Answer, done, refused, mapped, rule-19, read-text, read-list, lent-after, read-program-into}
+use Rattle.theory.specs.TurnedDown.{Answer, done, refused, mapped, rule-19, read-text-under, read-list, read-list-under, lent-after, read-program-into}
 use Rattle.theory.specs.declared.Refusal.{Refusal}
+use Rattle.theory.specs.declared.Setting.{Setting}
 use Rattle.theory.specs.Claims.{Accepted}
 use Rattle.theory.proofs.Nesting.{reads-accepted, short, list-read}
+use Rattle.theory.proofs.Settings.{read-text-outside, read-list-outside}
 use Rattle.theory.proofs.Lists.{lists-round-trip}
 use Rattle.list.specs.Answers as P
 use Rattle.list.specs.declared.Program.{Program}
@@ -57,35 +59,43 @@ known list p q e f =
       names = rw (same, f);
     }
 
-module _ (t : Bytes) (lent : List ℕ) (room : 1536 ≤ length lent) where
-  fits : (p : List Command) → read-text t ≡ done p → length (list-of p) ≤ length lent
-  fits p e = omega (arith, list-length p, short p (reads-accepted .0 t p e))
+-- A list that passes a check under a setting, and its part in a translation outside it
+module _ (σ : Setting) (list : List ℕ) {c : Checked} (e : c ≡ P.checked (read-list-under σ list)) {q : Program} (f : c ≡ C.Accepted q) where
+  pub listed-known : Known list (q .lines) (q .variables)
+  listed-known = let k = checked-accepted (read-list-under σ list) e f in known list (k .0) q (read-list-outside σ list (k .0) (k .1)) (k .2)
+
+  pub listed-outside : read-list list ≡ read-list-under σ list
+  listed-outside = let k = checked-accepted (read-list-under σ list) e f in read-list-outside σ list (k .0) (k .1) ∙ sym (k .1)
+
+module _ (σ : Setting) (t : Bytes) (lent : List ℕ) (room : 1536 ≤ length lent) where
+  fits : (p : List Command) → read-text-under σ t ≡ done p → length (list-of p) ≤ length lent
+  fits p e = omega (arith, list-length p, short p (reads-accepted .0 t p (read-text-outside σ t p e)))
 
   -- A list of 1,536 numbers has room for any program
-  read-as-text : read-program-into lent t ≡ read-text t
+  read-as-text : read-program-into σ lent t ≡ read-text-under σ t
   unfolding read-program-into rule-19
-  read-as-text = go (read-text t) refl
+  read-as-text = go (read-text-under σ t) refl
     where
-      go : (A : Answer (List Command)) → read-text t ≡ A → read-program-into lent t ≡ read-text t
+      go : (A : Answer (List Command)) → read-text-under σ t ≡ A → read-program-into σ lent t ≡ read-text-under σ t
       go (refused r) e = rw e
       go (done p) e = rw (e, le-leb (length (list-of p)) (length lent) (fits p e))
 
-  pub unread : {c : Checked} {r : Refusal} → c ≡ P.checked (read-program-into lent t) → c ≡ C.Refused r → read-text t ≡ refused r
-  unread e f = sym read-as-text ∙ checked-refused (read-program-into lent t) e f
+  pub unread : {c : Checked} {r : Refusal} → c ≡ P.checked (read-program-into σ lent t) → c ≡ C.Refused r → read-text-under σ t ≡ refused r
+  unread e f = sym read-as-text ∙ checked-refused (read-program-into σ lent t) e f
 
   -- What was read, and the part of the list that holds it
   pub record Taken (q : Program) (list : List ℕ) : Type 0 where
     pub program : List Command
-    pub text : read-text t ≡ done program
+    pub text : read-text-under σ t ≡ done program
     pub part : read-list (take (3 * q .lines) list) ≡ done program
     pub known : Known (take (3 * q .lines) list) (q .lines) (q .variables)
     pub few : 3 * q .lines ≤ 1536
 
-  taken-of : (p : List Command) (q : Program) (list : List ℕ) → read-text t ≡ done p → q ≡ P.program-of p
-      → list ≡ lent-after lent (mapped list-of (read-program-into lent t)) → Taken q list
+  taken-of : (p : List Command) (q : Program) (list : List ℕ) → read-text-under σ t ≡ done p → q ≡ P.program-of p
+      → list ≡ lent-after lent (mapped list-of (read-program-into σ lent t)) → Taken q list
   unfolding lent-after
   taken-of p q list e f h =
-      let ok : Accepted p = reads-accepted .0 t p e in
+      let ok : Accepted p = reads-accepted .0 t p (read-text-outside σ t p e) in
       let l : length (list-of p) ≡ 3 * q .lines = rw f (list-length p) in
       let part : take (3 * q .lines) list ≡ list-of p =
       rw (h, read-as-text, e) (take-at (list-of p) (drop (length (list-of p)) lent) (3 * q .lines) l) in
@@ -98,8 +108,8 @@ module _ (t : Bytes) (lent : List ℕ) (room : 1536 ≤ length lent) where
         few = omega (arith, list-length p, short p ok);
       }
 
-  pub taken : {c : Checked} (q : Program) (list : List ℕ) → c ≡ P.checked (read-program-into lent t) → c ≡ C.Accepted q
-      → list ≡ lent-after lent (mapped list-of (read-program-into lent t)) → Taken q list
+  pub taken : {c : Checked} (q : Program) (list : List ℕ) → c ≡ P.checked (read-program-into σ lent t) → c ≡ C.Accepted q
+      → list ≡ lent-after lent (mapped list-of (read-program-into σ lent t)) → Taken q list
   taken q list e f h =
-      let k : _ = checked-accepted (read-program-into lent t) e f in
+      let k : _ = checked-accepted (read-program-into σ lent t) e f in
       taken-of (k .0) q list (sym read-as-text ∙ k .1) (k .2) h

@@ -6,11 +6,12 @@ mod writing;
 
 use program::Checked;
 use theory::Refusal;
+use theory::Setting;
 ghost use mathlib.Core.Path.{_≡_};
 ghost use Prim.Native.Nat.{_≤_};
 ghost use lib.ListN.{length};
 ghost use Rattle.theory.specs.Translation.{word-text};
-ghost use Rattle.theory.specs.TurnedDown.{done, read-list, read-text, lent-after, translate-into};
+ghost use Rattle.theory.specs.TurnedDown.{done, read-list, read-list-under, read-text-under, lent-after, translate-into};
 ghost use Rattle.theory.specs.ProgramText.{commands};
 ghost use Rattle.translation.specs.Answers.{size-of, translated, output, Answered};
 ghost use Rattle.translation.specs.Sites.{Known, Noted};
@@ -67,24 +68,24 @@ fn translate_accepted(list: &[u8], lines: usize, variables: usize, out: &mut [u8
     Translated::Done(size)
 }
 
-// A list of three numbers a command: rules 3 to 8, then 19.
-pub fn translate_list(list: &[u8], out: &mut [u8]) -> Translated
-    ensures { λ r. ⌜ r ≡ translated (translate-into (now (out .entry)) (read-list (now (list .entry)))) ⌝ }
-    ensures { λ _. ⌜ now (out .exit) ≡ output (now (out .entry)) (read-list (now (list .entry))) ⌝ }
+// A list of three numbers a command: rules 3 to 8 under a setting, then 19.
+pub fn translate_list(setting: Setting, list: &[u8], out: &mut [u8]) -> Translated
+    ensures { λ r. ⌜ r ≡ translated (translate-into (now (out .entry)) (read-list-under setting (now (list .entry)))) ⌝ }
+    ensures { λ _. ⌜ now (out .exit) ≡ output (now (out .entry)) (read-list-under setting (now (list .entry))) ⌝ }
 {
-    match program::check_list(list) {
+    match program::check_list(setting, list) {
         Checked::Refused(r) => Translated::Refused(r),
         Checked::Accepted(p) => translate_accepted(list, p.lines, p.variables, &mut *out),
     }
 }
 
-// A text: rules 1 to 8, then 19.
-pub fn translate_text(text: &[u8], out: &mut [u8]) -> Translated
-    ensures { λ r. ⌜ r ≡ translated (translate-into (now (out .entry)) (read-text (now (text .entry)))) ⌝ }
-    ensures { λ _. ⌜ now (out .exit) ≡ output (now (out .entry)) (read-text (now (text .entry))) ⌝ }
+// A text: rules 1 to 8 under a setting, then 19.
+pub fn translate_text(setting: Setting, text: &[u8], out: &mut [u8]) -> Translated
+    ensures { λ r. ⌜ r ≡ translated (translate-into (now (out .entry)) (read-text-under setting (now (text .entry)))) ⌝ }
+    ensures { λ _. ⌜ now (out .exit) ≡ output (now (out .entry)) (read-text-under setting (now (text .entry))) ⌝ }
 {
     let mut list = [0u8; program::Program::NUMBERS];
-    match program::read(text, &mut list) {
+    match program::read(setting, text, &mut list) {
         Checked::Refused(r) => Translated::Refused(r),
         Checked::Accepted(p) => {
             let lines = p.lines;

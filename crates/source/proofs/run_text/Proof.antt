@@ -7,8 +7,9 @@ use native.Mathlib.Omega.{arith}
 use borrow.Author.Needs.{needs}
 use lib.ListN.{length, take, replicate}
 use lib.Seq.{length-take-le}
-use Rattle.theory.specs.TurnedDown.{read-text}
+use Rattle.theory.specs.TurnedDown.{read-text-under}
 use Rattle.theory.specs.ProgramText.{commands}
+use Rattle.theory.specs.declared.Setting.{Setting}
 use Rattle.list.specs.Answers.{checked}
 use Rattle.list.specs.declared.Program.{Program}
 use Rattle.source.specs.Lines.{Given}
@@ -21,11 +22,14 @@ abbrev buffer : List ℕ
 buffer = replicate 1536 0
 
 -- What `read` said is what the definition says of the text
-said : (c : tie.After-read) → c .read .result ≡ checked (read-text (c .before .before .before .args .text .now))
-said c = c .read .ensures .0 ∙ ap checked (buffer-read buffer (c .before .before .before .args .text .now) refl)
+said : (c : tie.After-read) → let a = c .before .before .before .args in c .read .result ≡ checked (read-text-under (a .setting) (a .text .now))
+said c = let a = c .before .before .before .args in c .read .ensures .0 ∙ ap checked (buffer-read (a .setting) buffer (a .text .now) refl)
 
 -- Of an accepted text: its numbers lie within the buffer, and hold the program
 module _ (c : tie.After-p) where
+  abbrev σ : Setting
+  σ = c .before .before .before .before .before .before .args .setting
+
   abbrev text : List ℕ
   text = c .before .before .before .before .before .before .args .text .now
 
@@ -33,22 +37,22 @@ module _ (c : tie.After-p) where
   answered = c .p .given .0 .0
 
   abbrev last : List ℕ
-  last = c .before .before .before .read .last .1 .0
+  last = c .before .before .before .read .last .1 .1 .0
 
-  accepted : AcceptedAs (read-text text) answered
-  accepted = accepted-as (read-text text) answered (sym (said (c .before .before .before)) ∙ c .p .given .1)
+  accepted : AcceptedAs (read-text-under σ text) answered
+  accepted = accepted-as (read-text-under σ text) answered (sym (said (c .before .before .before)) ∙ c .p .given .1)
 
   within : 3 * answered .lines ≤ 1536
-  within = numbers-few buffer text refl answered accepted last (c .before .before .before .read .ensures .1)
+  within = numbers-few σ buffer text refl answered accepted last (c .before .before .before .read .ensures .1)
 
   room : 3 * answered .lines ≤ length last
-  room = omega (arith, within, c .before .before .before .read .kept .1 .0)
+  room = omega (arith, within, c .before .before .before .read .kept .1 .1 .0)
 
   given : Given (take (3 * answered .lines) last) (answered .lines) (answered .variables)
-  given = text-given buffer text refl answered accepted last (c .before .before .before .read .ensures .1)
+  given = text-given σ buffer text refl answered accepted last (c .before .before .before .read .ensures .1)
 
   held : commands (take (3 * answered .lines) last) ≡ accepted .commands
-  held = text-program buffer text refl answered accepted last (c .before .before .before .read .ensures .1)
+  held = text-program σ buffer text refl answered accepted last (c .before .before .before .read .ensures .1)
 
 slice-aggregate-read : tie.Need-slice-aggregate-read
 slice-aggregate-read c = search needs
@@ -89,7 +93,7 @@ returns-2 c =
     let answer : _ = sym (said call) ∙ told .refusal .given .1 in
     rw (
       c .refused .ensures,
-      refused-as (read-text (call .before .before .before .args .text .now)) (told .refusal .given .0 .0) answer,
+      refused-as (read-text-under _ (call .before .before .before .args .text .now)) (told .refusal .given .0 .0) answer,
     )
     (refused-back _ _)
 

@@ -1,6 +1,6 @@
 -- `run_list` meets its contract, since `source::run_list` meets its own.
 use borrow.Author.Needs.{needs}
-use Rattle.theory.specs.TurnedDown.{read-list}
+use Rattle.theory.specs.TurnedDown.{read-list-under}
 use Rattle.states.proofs.Lent.{runs-lent}
 use Rattle.states.proofs.run_list.Statement.{statement}
 use Rattle.states.proofs.run_list.Tie as tie
@@ -23,8 +23,8 @@ returns c =
     let at-run : tie.After-run-list = at-put .before .before .before in
     let at-state : tie.After-state-of = at-run .before in
     let args = at-state .before .before .before .before .args in
-    runs-lent (read-list (args .list .now)) (args .state .now) (args .budget) (at-state .state-of .result) (at-run .run-list .result)
-    (at-put .put-state .last .1 .0) (at-state .state-of .ensures) (at-run .run-list .ensures) (at-put .put-state .ensures)
+    runs-lent (read-list-under (args .setting) (args .list .now)) (args .state .now) (args .budget) (at-state .state-of .result)
+    (at-run .run-list .result) (at-put .put-state .last .1 .0) (at-state .state-of .ensures) (at-run .run-list .ensures) (at-put .put-state .ensures)
 
 pub run-list-spec : {M : Type 1} → statement M
 run-list-spec =

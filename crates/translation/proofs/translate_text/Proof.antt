@@ -22,31 +22,31 @@ enum-known-p c = search needs
 mul-end : tie.Need-mul-end
 mul-end c =
     let read : _ = c .before .before .before .before .read .ensures in
-    let k : _ = taken _ _ (omega arith) _ _ (read .0) (c .before .p .given .1) (read .1) in
+    let k : _ = taken _ _ _ (omega arith) _ _ (read .0) (c .before .p .given .1) (read .1) in
     omega (arith, k .few)
 
 array-share-prefix-list : tie.Need-array-share-prefix-list
 array-share-prefix-list c =
     let read : _ = c .before .before .before .before .read .ensures in
-    let k : _ = taken _ _ (omega arith) _ _ (read .0) (c .before .p .given .1) (read .1) in
-    omega (arith, k .few, c .before .before .before .before .read .kept .1 .0)
+    let k : _ = taken _ _ _ (omega arith) _ _ (read .0) (c .before .p .given .1) (read .1) in
+    omega (arith, k .few, c .before .before .before .before .read .kept .1 .1 .0)
 
 slice-aggregate-translate-accepted : tie.Need-slice-aggregate-translate-accepted
 slice-aggregate-translate-accepted c =
     let read : _ = c .before .before .before .before .before .read .ensures in
-    let k : _ = taken _ _ (omega arith) _ _ (read .0) (c .before .before .p .given .1) (read .1) in
+    let k : _ = taken _ _ _ (omega arith) _ _ (read .0) (c .before .before .p .given .1) (read .1) in
     let r : _ = c .before .before .before .before .before .read in
-    sym (length-take-le _ (r .last .1 .0) (omega (arith, k .few, r .kept .1 .0)))
+    sym (length-take-le _ (r .last .1 .1 .0) (omega (arith, k .few, r .kept .1 .1 .0)))
 
 translate-accepted-requires : tie.Need-translate-accepted-requires
 translate-accepted-requires c κs =
     let read : _ = c .before .before .before .before .before .before .read .ensures in
-    let k : _ = taken _ _ (omega arith) _ _ (read .0) (c .before .before .before .p .given .1) (read .1) in
+    let k : _ = taken _ _ _ (omega arith) _ _ (read .0) (c .before .before .before .p .given .1) (read .1) in
     k .known
 
 returns : tie.Need-returns
 returns c =
-    let e : _ = unread _ _ (omega arith) (c .before .before .before .before .read .ensures .0) (c .before .r .given .1) in
+    let e : _ = unread _ _ _ (omega arith) (c .before .before .before .before .read .ensures .0) (c .before .r .given .1) in
     let a : _ = answered-refused _ _ _ e in
     (a .answers, a .writes)
 
@@ -56,7 +56,7 @@ same-length c = search needs
 returns-2 : tie.Need-returns-2
 returns-2 c =
     let read : _ = c .before .before .before .before .before .before .before .before .before .read .ensures in
-    let k : _ = taken _ _ (omega arith) _ _ (read .0) (c .before .before .before .before .before .before .p .given .1) (read .1) in
+    let k : _ = taken _ _ _ (omega arith) _ _ (read .0) (c .before .before .before .before .before .before .p .given .1) (read .1) in
     let a : _ = rw (k .part ∙ sym (k .text)) at (c .before .before .translate-accepted .ensures) in
     (a .answers, a .writes)
 
