@@ -10,21 +10,22 @@ use Rattle.theory.specs.Word.{Entry}
 use Rattle.theory.specs.Translation.{word-text}
 use Rattle.theory.specs.Machines.{Memory}
 use Rattle.theory.specs.TurnedDown.{Answer, after, mapped, lent-after, read-program-into, write-program-into, read-word-into}
+use Rattle.theory.specs.declared.Setting.{Setting}
 use Rattle.word.specs.Answers as Words
 use Rattle.states.specs.Numbers.{run-numbers, LentAfter}
 use Rattle.memory.specs.Calls.{position, answered}
 use Rattle.memory.specs.declared.answers.Position.{Position}
 use Rattle.packing.specs.Packed.{packed, commands, sizes, count, ending}
 
--- A text read into a lent list of three numbers a command: the variables and the commands
-pub record ReadsProgram (text : Bytes) (list : List ℕ) (r : ℕ) (list′ : List ℕ) : Type 0 where
-  pub result : r ≡ packed commands (read-program-into list text)
-  pub list-after : list′ ≡ lent-after list (mapped list-of (read-program-into list text))
+-- Under a setting, a text read into a lent list of three numbers a command: the variables and the commands
+pub record ReadsProgram (σ : Setting) (text : Bytes) (list : List ℕ) (r : ℕ) (list′ : List ℕ) : Type 0 where
+  pub result : r ≡ packed commands (read-program-into σ list text)
+  pub list-after : list′ ≡ lent-after list (mapped list-of (read-program-into σ list text))
 
--- A list written as a text into lent bytes: the bytes
-pub record WritesProgram (list : List ℕ) (text : Bytes) (r : ℕ) (text′ : Bytes) : Type 0 where
-  pub result : r ≡ packed count (write-program-into text list)
-  pub text-after : text′ ≡ lent-after text (write-program-into text list)
+-- Under a setting, a list written as a text into lent bytes: the bytes
+pub record WritesProgram (σ : Setting) (list : List ℕ) (text : Bytes) (r : ℕ) (text′ : Bytes) : Type 0 where
+  pub result : r ≡ packed count (write-program-into σ text list)
+  pub text-after : text′ ≡ lent-after text (write-program-into σ text list)
 
 -- A program handed in as A, translated into a lent word: the word's instructions and symbols
 pub record Translates (A : Answer (List Command)) (word : Bytes) (r : ℕ) (word′ : Bytes) : Type 0 where

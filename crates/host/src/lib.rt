@@ -3,65 +3,66 @@
 use memory::Machine;
 use memory::Position;
 ghost use mathlib.Core.Path.{_≡_};
-ghost use Rattle.theory.specs.TurnedDown.{read-text, read-list, read-word-for, read-table-for};
+ghost use Rattle.theory.specs.TurnedDown.{read-text-under, read-list-under, read-word-for, read-table-for};
 ghost use Rattle.word.specs.Answers.{zipped};
+ghost use Rattle.packing.specs.Packed.{setting-of};
 ghost use Rattle.host.specs.Entries.{ReadsProgram, WritesProgram, Translates, RunsSource};
 ghost use Rattle.host.specs.Entries.{ReadsWord, WritesWord, RunsOn, lent, stands-at};
 
 // The version of these entries.
 #[no_mangle]
 pub extern "C" fn mudzkvopi_version() -> u32
-    ensures { λ r. ⌜ r ≡ 1 ⌝ }
+    ensures { λ r. ⌜ r ≡ 2 ⌝ }
 {
-    1
+    2
 }
 
-// A text read into a lent list of three numbers a command: rules 1 to 8, then 19.
+// A text read into a lent list of three numbers a command: rules 1 to 8 under a setting, then 19.
 #[no_mangle]
-pub extern "C" fn mudzkvopi_read_program(text: &[u8], list: &mut [u8]) -> u64
-    ensures { λ r. ⌜ ReadsProgram (now (text .entry)) (now (list .entry)) r (now (list .exit)) ⌝ }
+pub extern "C" fn mudzkvopi_read_program(setting: u32, text: &[u8], list: &mut [u8]) -> u64
+    ensures { λ r. ⌜ ReadsProgram (setting-of setting) (now (text .entry)) (now (list .entry)) r (now (list .exit)) ⌝ }
 {
-    packing::program_read(program::read(text, &mut *list))
+    packing::program_read(program::read(packing::setting(setting), text, &mut *list))
 }
 
-// A list written as a text into lent bytes: rules 3 to 8, then 19.
+// A list written as a text into lent bytes: rules 3 to 8 under a setting, then 19.
 #[no_mangle]
-pub extern "C" fn mudzkvopi_write_program(list: &[u8], text: &mut [u8]) -> u64
-    ensures { λ r. ⌜ WritesProgram (now (list .entry)) (now (text .entry)) r (now (text .exit)) ⌝ }
+pub extern "C" fn mudzkvopi_write_program(setting: u32, list: &[u8], text: &mut [u8]) -> u64
+    ensures { λ r. ⌜ WritesProgram (setting-of setting) (now (list .entry)) (now (text .entry)) r (now (text .exit)) ⌝ }
 {
-    packing::program_written(program::write(list, &mut *text))
+    packing::program_written(program::write(packing::setting(setting), list, &mut *text))
 }
 
-// A program handed in as text, translated into a lent word: rules 1 to 8, then 19.
+// A program handed in as text, translated into a lent word: rules 1 to 8 under a setting, then 19.
 #[no_mangle]
-pub extern "C" fn mudzkvopi_translate(text: &[u8], word: &mut [u8]) -> u64
-    ensures { λ r. ⌜ Translates (read-text (now (text .entry))) (now (word .entry)) r (now (word .exit)) ⌝ }
+pub extern "C" fn mudzkvopi_translate(setting: u32, text: &[u8], word: &mut [u8]) -> u64
+    ensures { λ r. ⌜ Translates (read-text-under (setting-of setting) (now (text .entry))) (now (word .entry)) r (now (word .exit)) ⌝ }
 {
-    packing::translated(translation::translate_text(text, &mut *word))
+    packing::translated(translation::translate_text(packing::setting(setting), text, &mut *word))
 }
 
-// A program handed in as a list, translated so: rules 3 to 8, then 19.
+// A program handed in as a list, translated so: rules 3 to 8 under a setting, then 19.
 #[no_mangle]
-pub extern "C" fn mudzkvopi_translate_list(list: &[u8], word: &mut [u8]) -> u64
-    ensures { λ r. ⌜ Translates (read-list (now (list .entry))) (now (word .entry)) r (now (word .exit)) ⌝ }
+pub extern "C" fn mudzkvopi_translate_list(setting: u32, list: &[u8], word: &mut [u8]) -> u64
+    ensures { λ r. ⌜ Translates (read-list-under (setting-of setting) (now (list .entry))) (now (word .entry)) r (now (word .exit)) ⌝ }
 {
-    packing::translated(translation::translate_list(list, &mut *word))
+    packing::translated(translation::translate_list(packing::setting(setting), list, &mut *word))
 }
 
-// A program handed in as text, run from a state of 51 numbers: rules 1 to 8, then 9.
+// A program handed in as text, run from a state of 51 numbers: rules 1 to 8 under a setting, then 9.
 #[no_mangle]
-pub extern "C" fn mudzkvopi_run_source(text: &[u8], state: &mut [u32], budget: u32) -> u64
-    ensures { λ r. ⌜ RunsSource (read-text (now (text .entry))) (now (state .entry)) budget r (now (state .exit)) ⌝ }
+pub extern "C" fn mudzkvopi_run_source(setting: u32, text: &[u8], state: &mut [u32], budget: u32) -> u64
+    ensures { λ r. ⌜ RunsSource (read-text-under (setting-of setting) (now (text .entry))) (now (state .entry)) budget r (now (state .exit)) ⌝ }
 {
-    packing::source_ended(states::run_text(text, &mut *state, budget))
+    packing::source_ended(states::run_text(packing::setting(setting), text, &mut *state, budget))
 }
 
-// A program handed in as a list, run so: rules 3 to 8, then 9.
+// A program handed in as a list, run so: rules 3 to 8 under a setting, then 9.
 #[no_mangle]
-pub extern "C" fn mudzkvopi_run_source_list(list: &[u8], state: &mut [u32], budget: u32) -> u64
-    ensures { λ r. ⌜ RunsSource (read-list (now (list .entry))) (now (state .entry)) budget r (now (state .exit)) ⌝ }
+pub extern "C" fn mudzkvopi_run_source_list(setting: u32, list: &[u8], state: &mut [u32], budget: u32) -> u64
+    ensures { λ r. ⌜ RunsSource (read-list-under (setting-of setting) (now (list .entry))) (now (state .entry)) budget r (now (state .exit)) ⌝ }
 {
-    packing::source_ended(states::run_list(list, &mut *state, budget))
+    packing::source_ended(states::run_list(packing::setting(setting), list, &mut *state, budget))
 }
 
 // A word read into kinds and operands: rules 11 to 14, then 19.

@@ -13,11 +13,12 @@ use Rattle.theory.specs.Limits
 use Rattle.theory.specs.Basics.{given, or-else, and-then, EachOf}
 use Rattle.theory.specs.Text.{Bytes, LF, onto-first, split-lines, ends-in-LF}
 use Rattle.theory.specs.ProgramText as P
-use Rattle.theory.specs.ProgramText.{Command, plain, opens, closes, indices, above}
+use Rattle.theory.specs.ProgramText.{loop, while, Command, plain, opens, closes, indices, above}
 use Rattle.theory.specs.Word.{Entry, symbol-of, is-symbol}
 use Rattle.theory.specs.Machines.{is-limited}
-use Rattle.theory.specs.TurnedDown.{same-kind, refuse, unless, rule-1, rule-2, rule-3, rule-20, pair-fault, line-fault-under, open-past, lines-fault-under}
-use Rattle.theory.specs.TurnedDown.{program-fault-under, text-lines, text-fault-under, rule-11, first-failing, rule-12, entry-size, entry-fault}
+use Rattle.theory.specs.TurnedDown.{same-kind, refuse, unless, rule-1, rule-2, rule-3, rule-20, pair-fault, line-fault-under, open-past}
+use Rattle.theory.specs.TurnedDown.{lines-fault-under, program-fault, program-fault-under, text-lines, text-fault, text-fault-under}
+use Rattle.theory.specs.TurnedDown.{rule-11, first-failing, rule-12, entry-size, entry-fault}
 use Rattle.theory.specs.TurnedDown.{first-along, rule-13, total, rule-14, names-register, lacks, rule-15, word-entries, word-fault}
 use Rattle.theory.specs.TurnedDown.{table-rule-11, bad-entry, table-fault}
 use Rattle.theory.specs.declared.Refusal.{Refusal}
@@ -27,17 +28,17 @@ use Rattle.theory.proofs.Faults.{unless-none, and-second, none-first, none-seco
 use Rattle.theory.proofs.Words.{spell-of-entries, total-length, formed-of-table, table-good}
 
 abbrev pub Low : Option Refusal → Type 0
-Low o = (r : Refusal) → o ≡ some r → (r .number ≤ 19) × (r .place ≤ 600000)
+Low o = (r : Refusal) → o ≡ some r → (r .number ≤ 99) × (r .place ≤ 600000)
 
 pub low-none : Low none
 low-none r e = absurd (Option·none-ne-some r e)
 
-pub low-at : (n p : ℕ) → n ≤ 19 → p ≤ 600000 → Low (refuse n p)
+pub low-at : (n p : ℕ) → n ≤ 99 → p ≤ 600000 → Low (refuse n p)
 low-at n p h l r e =
     let same = Option·some-injective (record { number = n; place = p }) r e in
-    (subst (λ (q : Refusal). q .number ≤ 19) same h, subst (λ (q : Refusal). q .place ≤ 600000) same l)
+    (subst (λ (q : Refusal). q .number ≤ 99) same h, subst (λ (q : Refusal). q .place ≤ 600000) same l)
 
-pub low-unless : (b : Bool) (n p : ℕ) → n ≤ 19 → p ≤ 600000 → Low (unless b n p)
+pub low-unless : (b : Bool) (n p : ℕ) → n ≤ 99 → p ≤ 600000 → Low (unless b n p)
 low-unless true n p h l = low-none
 low-unless false n p h l = low-at n p h l
 
@@ -45,7 +46,7 @@ pub low-or : (x y : Option Refusal) → Low x → (x ≡ none → Low y) → Low
 low-or none y l m = m refl
 low-or (some r) y l m = l
 
-low-then : (x : Option ℕ) (n : ℕ) → n ≤ 19 → ((i : ℕ) → x ≡ some i → i ≤ 600000) → Low (and-then x (refuse n))
+low-then : (x : Option ℕ) (n : ℕ) → n ≤ 99 → ((i : ℕ) → x ≡ some i → i ≤ 600000) → Low (and-then x (refuse n))
 low-then none n h l = low-none
 low-then (some i) n h l = low-at n i h (l i refl)
 
@@ -91,7 +92,8 @@ open-low n os (some (opens k i)) h l = (h, l)
 open-low n [] (some (closes k i)) h l = tt
 open-low n (o ∷ os) (some (closes k i)) h l = l .1
 
-lines-low : (σ : Setting) (n : ℕ) (os : List P.Opening) (p : List (Option Command)) → n + length p ≤ 600000 → LowLines os → Low (lines-fault-under σ n os p)
+lines-low : (σ : Setting) (n : ℕ) (os : List P.Opening) (p : List (Option Command)) → n + length p ≤ 600000 → LowLines os
+    → Low (lines-fault-under σ n os p)
 unfolding lines-fault-under
 lines-low σ n [] [] h l = low-none
 lines-low σ n (o ∷ os) [] h l = low-at 8 (o .line) (omega arith) (l .0)
@@ -101,9 +103,9 @@ lines-low σ n (o ∷ os) (c ∷ p) h l =
     low-or _ _ (line-low σ n (o ∷ os) c (omega arith))
     (λ e. lines-low σ (suc n) (open-past n (o ∷ os) c) p (omega arith) (open-low n (o ∷ os) c (omega arith) l))
 
-pub few-lines : (σ : Setting) (p : List (Option Command)) → program-fault-under σ p ≡ none → length p ≤ 512
+pub few-lines : (p : List (Option Command)) → program-fault p ≡ none → length p ≤ 512
 unfolding program-fault-under rule-3
-few-lines σ p e = leb-true (length p) 512 (unless-none (leb (length p) 512) 3 513 (none-first _ _ e))
+few-lines p e = leb-true (length p) 512 (unless-none (leb (length p) 512) 3 513 (none-first _ _ e))
 
 pub program-low : (σ : Setting) (p : List (Option Command)) → Low (program-fault-under σ p)
 unfolding program-fault-under rule-3
@@ -111,9 +113,9 @@ program-low σ p =
     low-or _ _ (low-unless (leb (length p) 512) 3 513 (omega arith) (omega arith))
     (λ e. let few = leb-true (length p) 512 (unless-none (leb (length p) 512) 3 513 e) in lines-low σ 1 [] p (omega arith) tt)
 
-pub few-bytes : (σ : Setting) (t : Bytes) → text-fault-under σ t ≡ none → length t ≤ 16384
+pub few-bytes : (t : Bytes) → text-fault t ≡ none → length t ≤ 16384
 unfolding text-fault-under rule-1
-few-bytes σ t e = leb-true (length t) 16384 (unless-none (leb (length t) 16384) 1 0 (none-first _ _ e))
+few-bytes t e = leb-true (length t) 16384 (unless-none (leb (length t) 16384) 1 0 (none-first _ _ e))
 
 pub text-low : (σ : Setting) (t : Bytes) → Low (text-fault-under σ t)
 unfolding text-fault-under rule-1 rule-2

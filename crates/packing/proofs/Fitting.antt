@@ -27,7 +27,6 @@ use Rattle.theory.specs.declared.End.{End}
 use Rattle.theory.specs.declared.End.the-variants.{Halted, Strayed, Spent, Full}
 use Rattle.theory.specs.declared.Refusal.{Refusal}
 use Rattle.theory.specs.declared.Setting.{Setting}
-use Rattle.theory.specs.declared.Setting.the-variants.{Any}
 use Rattle.theory.proofs.Settings.{read-text-outside, read-list-outside}
 use Rattle.theory.proofs.Budgets.{steps-within}
 use Rattle.theory.proofs.Nesting.{reads-accepted}
@@ -103,7 +102,7 @@ unfolding write-program-into read-list-under commands
 write-program-fits σ text list =
     let p = present (listed list) in
     fit-lent (program-fault-under σ (listed list)) p text-of text (program-low σ (listed list))
-    (λ e. omega (arith, few-bytes Any (text-of p) (text-accepted p (list-program σ list e))))
+    (λ e. omega (arith, few-bytes (text-of p) (text-accepted p (list-program σ list e))))
 
 translate-fits : (σ : Setting) (word text : Bytes) → Fit (fields word-fields (translate-into word (read-text-under σ text)))
 unfolding translate-into read-text-under

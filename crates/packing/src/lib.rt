@@ -12,9 +12,10 @@ ghost use Rattle.packing.specs.Answered.{source-ended, word-ended};
 pub fn setting(number: u32) -> Setting
     ensures { λ r. ⌜ r ≡ setting-of number ⌝ }
 {
-    match number {
-        0 => Setting::Any,
-        _ => Setting::LoopOnly,
+    if number == 0 {
+        Setting::Any
+    } else {
+        Setting::LoopOnly
     }
 }
 

@@ -6,6 +6,9 @@ use Rattle.packing.proofs.Packs.{packs-source}
 use Rattle.host.proofs.mudzkvopi_run_source.Statement.{statement}
 use Rattle.host.proofs.mudzkvopi_run_source.Tie as tie
 
+setting-requires : tie.Need-setting-requires
+setting-requires c κs = search needs
+
 run-text-requires : tie.Need-run-text-requires
 run-text-requires c κs = search needs
 
@@ -17,9 +20,10 @@ same-length c = search needs
 
 returns : tie.Need-returns
 returns c =
-    let run = c .before .before .before .run-text .ensures in
+    let called = c .before .before .before in
+    let run = rw (called .before .before .setting .ensures) at (called .run-text .ensures) in
     record { result = c .source-ended .ensures ∙ ap source-ended (run .ended) ∙ packs-source _; state-after = run .state-after }
 
 pub mudzkvopi-run-source-spec : {M : Type 1} → statement M
 mudzkvopi-run-source-spec =
-    tie.close (tie.spec run-text-requires source-ended-requires same-length returns)
+    tie.close (tie.spec setting-requires run-text-requires source-ended-requires same-length returns)

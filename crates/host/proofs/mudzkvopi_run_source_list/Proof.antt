@@ -6,6 +6,9 @@ use Rattle.packing.proofs.Packs.{packs-source}
 use Rattle.host.proofs.mudzkvopi_run_source_list.Statement.{statement}
 use Rattle.host.proofs.mudzkvopi_run_source_list.Tie as tie
 
+setting-requires : tie.Need-setting-requires
+setting-requires c κs = search needs
+
 run-list-requires : tie.Need-run-list-requires
 run-list-requires c κs = search needs
 
@@ -17,9 +20,10 @@ same-length c = search needs
 
 returns : tie.Need-returns
 returns c =
-    let run = c .before .before .before .run-list .ensures in
+    let called = c .before .before .before in
+    let run = rw (called .before .before .setting .ensures) at (called .run-list .ensures) in
     record { result = c .source-ended .ensures ∙ ap source-ended (run .ended) ∙ packs-source _; state-after = run .state-after }
 
 pub mudzkvopi-run-source-list-spec : {M : Type 1} → statement M
 mudzkvopi-run-source-list-spec =
-    tie.close (tie.spec run-list-requires source-ended-requires same-length returns)
+    tie.close (tie.spec setting-requires run-list-requires source-ended-requires same-length returns)

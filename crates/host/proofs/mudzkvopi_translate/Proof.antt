@@ -6,6 +6,9 @@ use Rattle.packing.proofs.Packs.{packs-translated}
 use Rattle.host.proofs.mudzkvopi_translate.Statement.{statement}
 use Rattle.host.proofs.mudzkvopi_translate.Tie as tie
 
+setting-requires : tie.Need-setting-requires
+setting-requires c κs = search needs
+
 translate-text-requires : tie.Need-translate-text-requires
 translate-text-requires c κs = search needs
 
@@ -17,9 +20,10 @@ same-length c = search needs
 
 returns : tie.Need-returns
 returns c =
-    let given = c .before .before .before .translate-text .ensures in
+    let called = c .before .before .before in
+    let given = rw (called .before .before .setting .ensures) at (called .translate-text .ensures) in
     record { result = c .translated .ensures ∙ ap translated (given .0) ∙ packs-translated _; word-after = given .1 }
 
 pub mudzkvopi-translate-spec : {M : Type 1} → statement M
 mudzkvopi-translate-spec =
-    tie.close (tie.spec translate-text-requires translated-requires same-length returns)
+    tie.close (tie.spec setting-requires translate-text-requires translated-requires same-length returns)

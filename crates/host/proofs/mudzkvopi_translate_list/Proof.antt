@@ -6,6 +6,9 @@ use Rattle.packing.proofs.Packs.{packs-translated}
 use Rattle.host.proofs.mudzkvopi_translate_list.Statement.{statement}
 use Rattle.host.proofs.mudzkvopi_translate_list.Tie as tie
 
+setting-requires : tie.Need-setting-requires
+setting-requires c κs = search needs
+
 translate-list-requires : tie.Need-translate-list-requires
 translate-list-requires c κs = search needs
 
@@ -17,9 +20,10 @@ same-length c = search needs
 
 returns : tie.Need-returns
 returns c =
-    let given = c .before .before .before .translate-list .ensures in
+    let called = c .before .before .before in
+    let given = rw (called .before .before .setting .ensures) at (called .translate-list .ensures) in
     record { result = c .translated .ensures ∙ ap translated (given .0) ∙ packs-translated _; word-after = given .1 }
 
 pub mudzkvopi-translate-list-spec : {M : Type 1} → statement M
 mudzkvopi-translate-list-spec =
-    tie.close (tie.spec translate-list-requires translated-requires same-length returns)
+    tie.close (tie.spec setting-requires translate-list-requires translated-requires same-length returns)
