@@ -1,10 +1,11 @@
 // The bench examples of document 01 that are not marked P, read by the library: each text's answer, `passes` or the number and the place.
 use libc::STDOUT_FILENO;
 use program::Checked;
+use theory::Setting;
 
 fn answer(text: &[u8]) {
     let mut list = [0u8; 1536];
-    match program::read(text, &mut list) {
+    match program::read(Setting::Any, text, &mut list) {
         Checked::Accepted(_) => {
             io::write_all(STDOUT_FILENO, b"passes\n");
         }

@@ -11,6 +11,7 @@ use Rattle.theory.specs.ProgramText.{Command, variables, list-of, commands}
 use Rattle.theory.specs.TurnedDown.{Answer, done, refused, mapped, rule-19, read-text, read-list, lent-after, read-program-into}
 use Rattle.theory.specs.Claims.{Accepted}
 use Rattle.theory.specs.declared.Refusal.{Refusal}
+use Rattle.theory.specs.declared.Setting.the-variants.{Any}
 use Rattle.theory.proofs.Nesting.{short, few-variables, reads-accepted}
 use Rattle.theory.proofs.Lists.{lists-round-trip, commands-list}
 use Rattle.list.proofs.Lists.{list-length}
@@ -45,33 +46,33 @@ module _ (t list : Bytes) (q : Program) (r : Read t list q) where
       subst (λ l. read-list l ≡ done (commands l)) (sym (r .front)) sound
 
 module _ (lent t : Bytes) (size : length lent ≡ 1536) where
-  room-for-any : read-program-into lent t ≡ read-text t
+  room-for-any : read-program-into Any lent t ≡ read-text t
   unfolding read-program-into rule-19
   room-for-any = go (read-text t) refl
     where
-      go : (a : Answer (List Command)) → read-text t ≡ a → read-program-into lent t ≡ read-text t
+      go : (a : Answer (List Command)) → read-text t ≡ a → read-program-into Any lent t ≡ read-text t
       go (refused r) e = rw e
       go (done p) e =
           let few : length p ≤ 512 = short p (reads-accepted .0 t p e) in
           let fits : length (list-of p) ≤ length lent = omega (arith, list-length p, size) in
           rw (e, le-leb (length (list-of p)) (length lent) fits)
 
-  pub text-turned-down : (r : Refusal) → C.Refused r ≡ checked (read-program-into lent t) → read-text t ≡ refused r
+  pub text-turned-down : (r : Refusal) → C.Refused r ≡ checked (read-program-into Any lent t) → read-text t ≡ refused r
   text-turned-down r e = go (read-text t) refl (e ∙ ap checked room-for-any)
     where
       go : (a : Answer (List Command)) → read-text t ≡ a → C.Refused r ≡ checked a → a ≡ refused r
       go (refused x) h f = cc
       go (done p) h f = cc
 
-  list-front : (p : List Command) (list : Bytes) → read-program-into lent t ≡ done p
-      → list ≡ lent-after lent (mapped list-of (read-program-into lent t)) → take (3 * length p) list ≡ list-of p
+  list-front : (p : List Command) (list : Bytes) → read-program-into Any lent t ≡ done p
+      → list ≡ lent-after lent (mapped list-of (read-program-into Any lent t)) → take (3 * length p) list ≡ list-of p
   unfolding lent-after
   list-front p list e h =
       let whole : list ≡ list-of p ++ drop (length (list-of p)) lent = h ∙ ap {B = Bytes} (λ a. lent-after lent (mapped list-of a)) e in
       rw whole (take-at (list-of p) (drop (length (list-of p)) lent) (3 * length p) (list-length p))
 
-  pub text-passes : (q : Program) (list : Bytes) → C.Accepted q ≡ checked (read-program-into lent t)
-      → list ≡ lent-after lent (mapped list-of (read-program-into lent t)) → Read t list q
+  pub text-passes : (q : Program) (list : Bytes) → C.Accepted q ≡ checked (read-program-into Any lent t)
+      → list ≡ lent-after lent (mapped list-of (read-program-into Any lent t)) → Read t list q
   text-passes q list e h = go (read-text t) refl (e ∙ ap checked room-for-any)
     where
       go : (a : Answer (List Command)) → read-text t ≡ a → C.Accepted q ≡ checked a → Read t list q

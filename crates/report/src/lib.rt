@@ -10,6 +10,7 @@ use rows::run_row;
 use sheet::Names;
 use source::State;
 use theory::Refusal;
+use theory::Setting;
 use translation::Translated;
 use word::Instruction;
 use word::Read;
@@ -106,7 +107,7 @@ fn put_translated(
     ensures { λ r. ⌜ Printed (program-report (commands (now (list .entry))) (now (sheet .entry))) (now (out .entry)) (now (out .exit)) r ⌝ }
 {
     let mut word = [0u8; Reported::WORD];
-    match translation::translate_list(list, &mut word) {
+    match translation::translate_list(Setting::Any, list, &mut word) {
         Translated::Refused(r) => put_refusal(out, r),
         Translated::Done(size) => {
             let end = size.symbols;
@@ -134,7 +135,7 @@ fn put_report(text: &[u8], sheet: &[u8], out: &mut [u8]) -> usize
     ensures { λ r. ⌜ Printed (RunTool.report (now (text .entry)) (now (sheet .entry))) (now (out .entry)) (now (out .exit)) r ⌝ }
 {
     let mut list = [0u8; Program::NUMBERS];
-    match program::read(text, &mut list) {
+    match program::read(Setting::Any, text, &mut list) {
         Checked::Refused(r) => put_refusal(out, r),
         Checked::Accepted(p) => {
             let end = 3 * p.lines;

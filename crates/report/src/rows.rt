@@ -4,6 +4,7 @@ use printing::Ended;
 use printing::Row;
 use source::State;
 use theory::End;
+use theory::Setting;
 ghost use mathlib.Core.Path.{_≡_};
 ghost use mathlib.Core.List.{List};
 ghost use lib.ListN.{length};
@@ -91,7 +92,7 @@ pub fn run_row(
     ensures { λ r. ⌜ Ran (commands (now (list .entry))) (values-of values) r ⌝ }
 {
     let fresh = State::fresh(State::CAPACITY, values);
-    let run = source::run_list(list, fresh, SOURCE_BUDGET);
+    let run = source::run_list(Setting::Any, list, fresh, SOURCE_BUDGET);
     let ended = run.ended;
     let state = run.state;
     let last = state.values;

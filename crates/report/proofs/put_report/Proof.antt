@@ -29,12 +29,12 @@ enum-known-p c = search needs
 -- What is known of a program that is read
 passing : (c : tie.After-p) → let read = c .before .before .before in
     let start = read .before .before .before .before .before in
-    Read (start .args .text .now) (read .read .last .1 .0) (c .p .given .0 .0)
+    Read (start .args .text .now) (read .read .last .1 .1 .0) (c .p .given .0 .0)
 passing c =
     let read = c .before .before .before .read in
     let q = c .p .given .0 .0 in
     let accepted = sym (c .p .given .1) ∙ read .ensures .0 in
-    text-passes (replicate 1536 0) _ (length-replicate {A = ℕ} 1536 0) q (read .last .1 .0) accepted (read .ensures .1)
+    text-passes (replicate 1536 0) _ (length-replicate {A = ℕ} 1536 0) q (read .last .1 .1 .0) accepted (read .ensures .1)
 
 mul-end : tie.Need-mul-end
 mul-end c = record { fits = omega (arith, passing (c .before .before) .few) }
@@ -45,8 +45,8 @@ array-share-prefix-list c = omega (arith, passing (c .before .before) .few)
 slice-aggregate-put-accepted : tie.Need-slice-aggregate-put-accepted
 slice-aggregate-put-accepted c =
     let lines = c .before .before .before .p .given .0 .0 .lines in
-    let list = c .before .before .before .before .before .before .read .last .1 .0 in
-    let size : length list ≡ 1536 = c .before .before .before .before .before .before .read .kept .1 .0 in
+    let list = c .before .before .before .before .before .before .read .last .1 .1 .0 in
+    let size : length list ≡ 1536 = c .before .before .before .before .before .before .read .kept .1 .1 .0 in
     sym (length-take-le (3 * lines) list (omega (arith, passing (c .before .before .before) .few)))
 
 put-accepted-requires : tie.Need-put-accepted-requires

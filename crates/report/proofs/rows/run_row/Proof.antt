@@ -23,8 +23,8 @@ slice-aggregate-run-word c = search needs
 run-word-requires : tie.Need-run-word-requires
 run-word-requires c κs = (c .before .before .before .before .before .before .before .before .before .pre .1, search needs)
 
-array-read-t19 : tie.Need-array-read-t19
-array-read-t19 c = search needs
+array-read-t20 : tie.Need-array-read-t20
+array-read-t20 c = search needs
 
 returns : tie.Need-returns
 returns c =
@@ -49,5 +49,5 @@ run-row-spec =
     of-source-requires
     slice-aggregate-run-word
     run-word-requires
-    array-read-t19
+    array-read-t20
     returns)
