@@ -85,6 +85,7 @@ loop-list l p e =
 pub loop-programs-read : LoopProgramsRead
 unfolding commands
 loop-programs-read = record {
+  outside = λ n c. refl;
   accepted = λ l. (λ e. (program-outside LoopOnly l e, loop-program l e), λ h. same-fault l (h .1) ∙ h .0);
   same-fault = same-fault;
   same-text = same-text;

@@ -14,10 +14,10 @@ use Rattle.theory.specs.Word as W
 use Rattle.theory.specs.Word.{Instruction}
 use Rattle.theory.specs.Translation.{word, word-of}
 use Rattle.theory.specs.Machines.{fresh-source, fresh-word}
-use Rattle.theory.specs.TurnedDown.{done, program-fault, program-fault-under, text-lines}
+use Rattle.theory.specs.TurnedDown.{done, rule-20, program-fault, program-fault-under, text-lines}
 use Rattle.theory.specs.TurnedDown.{read-text, read-text-under, read-list, read-list-under}
 use Rattle.theory.specs.Claims.{Ends, SourceRun, WordRun}
-use Rattle.theory.specs.declared.Setting.the-variants.{LoopOnly}
+use Rattle.theory.specs.declared.Setting.the-variants.{Any, LoopOnly}
 use Rattle.theory.specs.declared.End.the-variants.{Halted}
 
 -- 1. "Under that setting the reader accepts only LOOP programs"
@@ -35,8 +35,9 @@ LoopLines = EachOf NoWhile
 abbrev pub LoopLinesOf : List (Option Command) → Type 0
 LoopLinesOf l = LoopLines (present l)
 
--- "Outside the setting nothing differs" is so by definition: there rule 20 turns nothing down
 pub record LoopProgramsRead : Type 0 where
+  -- "Outside the setting nothing differs": there rule 20 turns no line down
+  pub outside : (n : ℕ) (c : Command) → rule-20 Any n c ≡ none
   -- no rule turns a program down under the setting exactly where none does outside it and no line is a `while` or `endwhile` line
   pub accepted : (l : List (Option Command)) → (program-fault-under LoopOnly l ≡ none) ↔ ((program-fault l ≡ none) × LoopLinesOf l)
   -- and where no line is one, the answer is that outside the setting, whatever it is; so too of a text and a list as they are handed in
