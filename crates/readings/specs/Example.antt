@@ -16,10 +16,12 @@ use Rattle.theory.specs.Word.{Entry, bytes-of}
 use Rattle.theory.specs.Translation.{charge}
 use Rattle.theory.specs.Machines.{fresh-source, SourceState, Memory, refilled, Position, word-value}
 use Rattle.theory.specs.TurnedDown.{Answer, done, refused, mapped, lend}
-use Rattle.theory.specs.TurnedDown.{lent-after, instructions, word-entries, sheet-fault, rule-9, rule-10}
+use Rattle.theory.specs.TurnedDown.{lent-after, instructions, word-entries, sheet-fault, rule-9, rule-10, read-text-under, read-list-under}
 use Rattle.theory.specs.TurnedDown.{read-text, read-list, read-word, read-table, read-word-for, read-table-for, run-program, run-on}
 use Rattle.theory.specs.RunTool.{report}
 use Rattle.theory.specs.declared.Refusal.{Refusal}
+use Rattle.theory.specs.declared.Setting.{Setting}
+use Rattle.theory.specs.declared.Setting.the-variants.{Any, LoopOnly}
 use Rattle.theory.specs.declared.End.{End}
 use Rattle.bench.specs.Table as T
 
@@ -44,6 +46,9 @@ pub data Example : Type 0 where
   list : List ℕ → Option Refusal → Example
   word : Bytes → Option Refusal → Example
   entries : List Entry → Option Refusal → Example
+  -- a text and a list, outside the LOOP-only setting and under it
+  lesson : Bytes → Option Refusal → Option Refusal → Example
+  list-lesson : List ℕ → Option Refusal → Option Refusal → Example
   -- a word and a table on a machine of so many registers
   machine : ℕ → Bytes → Option Refusal → Example
   table : ℕ → List Entry → Option Refusal → Example
@@ -75,6 +80,9 @@ abbrev pub refusal : {A : Type 0} → Answer A → Option Refusal
 refusal (done a) = none
 refusal (refused r) = some r
 
+abbrev pub under-both : {A : Type 0} → (Setting → Answer A) → Option Refusal × Option Refusal
+under-both read = (refusal (read Any), refusal (read LoopOnly))
+
 abbrev pub lends : {A : Type 0} → List A → Answer (List A) → Option Refusal × List A
 lends lent r = let a = lend lent r in (refusal a, lent-after lent a)
 
@@ -91,6 +99,8 @@ Holds (text t r) = refusal (read-text t) ≡ r
 Holds (list l r) = refusal (read-list l) ≡ r
 Holds (word w r) = refusal (read-word w) ≡ r
 Holds (entries t r) = refusal (read-table t) ≡ r
+Holds (lesson t outside under) = under-both (λ σ. read-text-under σ t) ≡ (outside, under)
+Holds (list-lesson l outside under) = under-both (λ σ. read-list-under σ l) ≡ (outside, under)
 Holds (machine registers w r) = refusal (read-word-for registers w) ≡ r
 Holds (table registers t r) = refusal (read-table-for registers t) ≡ r
 Holds (source t s r) = mapped (λ p. rule-9 p s) (read-text (bytes t)) ≡ done r

@@ -23,4 +23,4 @@ bench =
     ∷ []
 
 abbrev pub ExamplesHold : Type 0
-ExamplesHold = EachOf Holds bench × EachOf (EachOf Holds) refusals × EachOf (EachOf Holds) results × EachOf Answers orders
+ExamplesHold = EachOf Holds bench × EachOf (EachOf Holds) refusals × EachOf (EachOf Holds) results × EachOf (EachOf Answers) orders

@@ -6,9 +6,11 @@ use lib.IntN.{pos}
 use lib.ListN.{replicate}
 use Rattle.theory.specs.Text.{bytes}
 use Rattle.theory.specs.Machines.{Position}
-use Rattle.theory.specs.TurnedDown.{refuse, read-text, read-list, read-word-for, read-table-for, run-program, run-on}
+use Rattle.theory.specs.TurnedDown.{refuse, read-text, read-text-under, read-list, read-list-under, read-word-for, read-table-for}
+use Rattle.theory.specs.TurnedDown.{run-program, run-on}
 use Rattle.theory.specs.TurnedDown.{read-program-into, write-program-into, translate-into, read-word-into, write-word-into}
 use Rattle.theory.specs.declared.Refusal.{Refusal}
+use Rattle.theory.specs.declared.Setting.the-variants.{Any, LoopOnly}
 use Rattle.readings.specs.Example.{refusal, passes, entry, state, empty}
 
 abbrev pub start : Position
@@ -21,21 +23,38 @@ pub data Order : Type 0 where
 abbrev pub Answers : Order → Type 0
 Answers (row answer expected) = answer ≡ expected
 
-unfoldable pub orders : List Order
-orders =
-    row (refusal (read-program-into [] (bytes "z\n"))) (refuse 4 1)
-    ∷ row (refusal (read-program-into (9 ∷ 9 ∷ []) (bytes "X0 <- 0\n"))) (refuse 19 0)
-    ∷ row (refusal (read-program-into (9 ∷ 9 ∷ 9 ∷ []) (bytes "X0 <- 0\n"))) passes
-    ∷ row (refusal (write-program-into [] (1 ∷ []))) (refuse 4 1)
-    ∷ row (refusal (write-program-into (replicate 7 9) (1 ∷ 0 ∷ 0 ∷ []))) (refuse 19 0)
-    ∷ row (refusal (write-program-into (replicate 8 9) (1 ∷ 0 ∷ 0 ∷ []))) passes
-    ∷ row (refusal (translate-into [] (read-text (bytes "z\n")))) (refuse 4 1)
+-- A program read and written
+unfoldable pub programs : List Order
+programs =
+    row (refusal (read-program-into Any [] (bytes "z\n"))) (refuse 4 1)
+    ∷ row (refusal (read-program-into Any (9 ∷ 9 ∷ []) (bytes "X0 <- 0\n"))) (refuse 19 0)
+    ∷ row (refusal (read-program-into Any (9 ∷ 9 ∷ 9 ∷ []) (bytes "X0 <- 0\n"))) passes
+    ∷ row (refusal (read-program-into Any [] (bytes "while X0 != 0\nendwhile X0 != 0\n"))) (refuse 19 0)
+    ∷ row (refusal (read-program-into LoopOnly [] (bytes "while X0 != 0\nendwhile X0 != 0\n"))) (refuse 20 1)  -- 20 before 19
+    ∷ row (refusal (write-program-into Any [] (1 ∷ []))) (refuse 4 1)
+    ∷ row (refusal (write-program-into Any (replicate 7 9) (1 ∷ 0 ∷ 0 ∷ []))) (refuse 19 0)
+    ∷ row (refusal (write-program-into Any (replicate 8 9) (1 ∷ 0 ∷ 0 ∷ []))) passes
+    ∷ row (refusal (write-program-into Any [] (6 ∷ 0 ∷ 0 ∷ 7 ∷ 0 ∷ 0 ∷ []))) (refuse 19 0)
+    ∷ row (refusal (write-program-into LoopOnly [] (6 ∷ 0 ∷ 0 ∷ 7 ∷ 0 ∷ 0 ∷ []))) (refuse 20 1)
+    ∷ []
+
+-- and translated and run
+unfoldable pub runs : List Order
+runs =
+    row (refusal (translate-into [] (read-text (bytes "z\n")))) (refuse 4 1)
     ∷ row (refusal (translate-into (9 ∷ 9 ∷ 9 ∷ []) (read-text []))) (refuse 19 0)
     ∷ row (refusal (translate-into (9 ∷ 9 ∷ 9 ∷ 9 ∷ []) (read-list []))) passes
+    ∷ row (refusal (translate-into [] (read-text-under LoopOnly (bytes "while X0 != 0\n")))) (refuse 20 1)
     ∷ row (refusal (run-program (read-text (bytes "z\n")) (state 0 1 [] []) 7)) (refuse 4 1)  -- the program before its state
     ∷ row (refusal (run-program (read-text []) (state 0 1 [] []) 7)) (refuse 9 0)
     ∷ row (refusal (run-program (read-list []) (state 1 1 [] []) 7)) passes
-    ∷ row (refusal (read-word-into [] [] (bytes "#"))) (refuse 13 0)
+    ∷ row (refusal (run-program (read-list-under LoopOnly (7 ∷ 0 ∷ 0 ∷ [])) (state 0 1 [] []) 7)) (refuse 20 1)
+    ∷ []
+
+-- A word
+unfoldable pub words : List Order
+words =
+    row (refusal (read-word-into [] [] (bytes "#"))) (refuse 13 0)
     ∷ row (refusal (read-word-into (9 ∷ []) [] (bytes "1#"))) (refuse 19 0)  -- either list
     ∷ row (refusal (read-word-into [] (9 ∷ []) (bytes "1#"))) (refuse 19 0)
     ∷ row (refusal (read-word-into (9 ∷ []) (9 ∷ []) (bytes "1#"))) passes
@@ -47,3 +66,7 @@ orders =
     ∷ row (refusal (run-on (empty 1 1) start 7 (read-table-for 1 []))) (refuse 11 0)
     ∷ row (refusal (run-on (empty 1 1) start 7 (read-word-for 1 (bytes "1#")))) passes
     ∷ []
+
+-- All of them
+unfoldable pub orders : List (List Order)
+orders = programs ∷ runs ∷ words ∷ []

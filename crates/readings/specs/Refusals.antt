@@ -6,8 +6,9 @@ use Rattle.theory.specs.Basics.{cells}
 use Rattle.theory.specs.Text.{bytes, LF}
 use Rattle.theory.specs.RunSheet as H
 use Rattle.theory.specs.TurnedDown.{refuse}
-use Rattle.readings.specs.Example.{Example, text, list, word, entries, machine, table, source, memory, sheet, names}
-use Rattle.readings.specs.Example.{numbers, times, passes, entry, state, fresh, nested, loop-in-while, register, empty, several}
+use Rattle.readings.specs.Example.{Example, text, list, lesson, list-lesson, word, entries, machine, table, source, memory}
+use Rattle.readings.specs.Example.{sheet, names, numbers, times, passes, entry, state, fresh, nested, loop-in-while}
+use Rattle.readings.specs.Example.{register, empty, several}
 
 -- The limits, in the order of Limits
 unfoldable pub limits : List Example
@@ -98,6 +99,46 @@ lists =
     ∷ list (1 ∷ 4294967295 ∷ 0 ∷ []) (refuse 5 1)
     ∷ names "X5 <- 0\nX2 <- X2 + 1\nX1 <- X3\n" ((5 ∷ []) ∷ (2 ∷ []) ∷ (1 ∷ 3 ∷ []) ∷ [])  -- a third number 0 is no name
     ∷ names "loop X3\nendloop X3\nwhile X4 != 0\nendwhile X4 != 0\n" ((3 ∷ []) ∷ (3 ∷ []) ∷ (4 ∷ []) ∷ (4 ∷ []) ∷ [])
+    ∷ []
+
+-- Rule 20 in one line, outside the LOOP-only setting and under it: after 4 and 5, before 6 and 7
+unfoldable pub lessons : List Example
+lessons =
+    lesson (bytes "loop X0\nX0 <- X0 + 1\nendloop X0\n") passes passes
+    ∷ lesson (bytes "while X0 != 0\nendwhile X0 != 0\n") passes (refuse 20 1)
+    ∷ lesson (bytes "while X0\n") (refuse 4 1) (refuse 4 1)
+    ∷ lesson (bytes "while X32 != 0\n") (refuse 5 1) (refuse 5 1)
+    ∷ lesson (bytes "endwhile X32 != 0\n") (refuse 5 1) (refuse 5 1)
+    ∷ lesson (times 16 (bytes "loop X0\n") ++ bytes "while X0 != 0\n") (refuse 6 17) (refuse 20 17)
+    ∷ lesson (bytes "endwhile X0 != 0\n") (refuse 7 1) (refuse 20 1)
+    ∷ lesson (bytes "loop X0\nendwhile X0 != 0\n") (refuse 7 2) (refuse 20 2)
+    ∷ lesson (times 17 (bytes "loop X0\n")) (refuse 6 17) (refuse 6 17)  -- `loop` lines by the other rules
+    ∷ lesson (bytes "endloop X0\n") (refuse 7 1) (refuse 7 1)
+    ∷ []
+
+-- and with the rules of the text and of other lines: after 1 to 3, line by line with 4 to 7, before 8
+unfoldable pub lesson-lines : List Example
+lesson-lines =
+    lesson (bytes "while X0 != 0") (refuse 2 1) (refuse 2 1)
+    ∷ lesson (times 513 (bytes "while X0 != 0\n")) (refuse 3 513) (refuse 3 513)
+    ∷ lesson (bytes "while X0 != 0\nzzz\n") (refuse 4 2) (refuse 20 1)
+    ∷ lesson (bytes "zzz\nwhile X0 != 0\n") (refuse 4 1) (refuse 4 1)
+    ∷ lesson (bytes "endloop X0\nwhile X0 != 0\n") (refuse 7 1) (refuse 7 1)
+    ∷ lesson (bytes "while X0 != 0\n") (refuse 8 1) (refuse 20 1)
+    ∷ lesson (bytes "loop X0\nwhile X1 != 0\n") (refuse 8 2) (refuse 20 2)
+    ∷ lesson (bytes "loop X0\n") (refuse 8 1) (refuse 8 1)
+    ∷ []
+
+-- The same of lists
+unfoldable pub list-lessons : List Example
+list-lessons =
+    list-lesson (4 ∷ 0 ∷ 0 ∷ 5 ∷ 0 ∷ 0 ∷ []) passes passes
+    ∷ list-lesson (6 ∷ 0 ∷ 0 ∷ 7 ∷ 0 ∷ 0 ∷ []) passes (refuse 20 1)
+    ∷ list-lesson (6 ∷ 0 ∷ 1 ∷ []) (refuse 4 1) (refuse 4 1)
+    ∷ list-lesson (6 ∷ 32 ∷ 0 ∷ []) (refuse 5 1) (refuse 5 1)
+    ∷ list-lesson (7 ∷ 0 ∷ 0 ∷ []) (refuse 7 1) (refuse 20 1)
+    ∷ list-lesson (6 ∷ 0 ∷ 0 ∷ []) (refuse 8 1) (refuse 20 1)
+    ∷ list-lesson (1 ∷ 0 ∷ 0 ∷ 6 ∷ 0 ∷ []) (refuse 4 2) (refuse 4 2)  -- a command cut short is no `while`
     ∷ []
 
 -- Words, rules 11 to 14
@@ -252,5 +293,5 @@ lines =
 -- All of them
 unfoldable pub refusals : List (List Example)
 refusals =
-    limits ∷ texts ∷ spellings ∷ almost ∷ pairs ∷ lists ∷ words ∷ tables ∷ machines ∷ places ∷ states ∷ memories ∷ layouts
-    ∷ sheets ∷ named ∷ lines ∷ []
+    limits ∷ texts ∷ spellings ∷ almost ∷ pairs ∷ lists ∷ lessons ∷ lesson-lines ∷ list-lessons ∷ words ∷ tables ∷ machines ∷ places
+    ∷ states ∷ memories ∷ layouts ∷ sheets ∷ named ∷ lines ∷ []

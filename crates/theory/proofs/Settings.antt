@@ -9,8 +9,8 @@ use Rattle.theory.specs.Basics.{or-else, present}
 use Rattle.theory.specs.Text.{Bytes}
 use Rattle.theory.specs.ProgramText.{Command, Opening, indices, above, listed, commands}
 use Rattle.theory.specs.TurnedDown.{done, unless, rule-1, rule-2, rule-3, rule-20, pair-fault, line-fault, line-fault-under}
-use Rattle.theory.specs.TurnedDown.{open-past, lines-fault, lines-fault-under, program-fault, program-fault-under, text-lines, text-fault}
-use Rattle.theory.specs.TurnedDown.{text-fault-under, read-text, read-text-under, read-list, read-list-under}
+use Rattle.theory.specs.TurnedDown.{open-past, lines-fault, lines-fault-under, program-fault, program-fault-under, text-lines}
+use Rattle.theory.specs.TurnedDown.{text-fault, text-fault-under, read-text, read-text-under, read-list, read-list-under}
 use Rattle.theory.specs.declared.Refusal.{Refusal}
 use Rattle.theory.specs.declared.Setting.{Setting}
 use Rattle.theory.proofs.Faults.{none-first, none-second, neither, answer-done}
