@@ -1,5 +1,5 @@
 /*
- * mudzkvopi.h: LOOP/WHILE programs, their 1# words, and runs of both. Version 1.
+ * mudzkvopi.h: LOOP/WHILE programs, their 1# words, and runs of both. Version 2.
  *
  * A host that translates a program and runs its word (the tests compile and run it):
  *
@@ -14,7 +14,8 @@
  *         uint16_t lengths[19] = { 0, 3 };            // X1 is register 2, and is to be 3
  *         int32_t place = 1;
  *         uint32_t steps = 0;
- *         uint64_t r = mudzkvopi_translate((const uint8_t *)text, strlen(text), word, sizeof word);
+ *         uint64_t r = mudzkvopi_translate(
+ *             MUDZKVOPI_ANY, (const uint8_t *)text, strlen(text), word, sizeof word);
  *
  *         if (MUDZKVOPI_WHAT(r) == MUDZKVOPI_REFUSED) {
  *             printf("refused %u %u\n", MUDZKVOPI_RULE(r), MUDZKVOPI_PLACE(r));
@@ -67,7 +68,7 @@
 extern "C" {
 #endif
 
-#define MUDZKVOPI_VERSION 1
+#define MUDZKVOPI_VERSION 2
 
 /*
  * Stack, in bytes, for each call. These are measured, not proved: tests/stack.c calls each with the
@@ -115,9 +116,12 @@ enum mudzkvopi_what {
 };
 
 /*
- * Rules, and their places. A call checks those that it lists, lower numbers first, but 4 to 7 line
- * by line. Lines count from 1. A list is judged by 3 to 8, each command as a line. 16 to 18 are the
- * run tool's: no call here has a sheet, so they never come from C.
+ * Rules, and their places. Each call below lists its rules in the order in which it checks them,
+ * and answers with the first that applies. "1, 2, 3; each line by 4, 5, 20, 6, 7; 8; 19" says: the
+ * whole text by 1, 2 and 3; then line after line, each by 4, 5, 20, 6 and 7 before the next one is
+ * looked at; then 8, and last 19. Lines count from 1, and the commands of a list are its lines. 20
+ * applies under the setting MUDZKVOPI_LOOP_ONLY alone. 16 to 18 are the run tool's: no call here
+ * has a sheet, so they never come from C.
  */
 enum mudzkvopi_rule {
     MUDZKVOPI_TEXT_TOO_LONG = 1,   /* the text is over 16384 bytes (place 0) */
@@ -146,7 +150,9 @@ enum mudzkvopi_rule {
     MUDZKVOPI_SHEET_NAME = 17,     /* a name isn't one of the program's variables, or comes twice
                                       (the line) */
     MUDZKVOPI_SHEET_VALUE = 18,    /* a value is above the capacity (the line) */
-    MUDZKVOPI_NO_ROOM = 19         /* a lent output is shorter than the result (0) */
+    MUDZKVOPI_NO_ROOM = 19,        /* a lent output is shorter than the result (0) */
+    MUDZKVOPI_NO_WHILE = 20        /* a `while` or `endwhile` line under the setting
+                                      MUDZKVOPI_LOOP_ONLY (the line) */
 };
 
 /* Limits. An output of the size given here has room for every result. */
@@ -171,23 +177,35 @@ uint32_t mudzkvopi_version(void);
  */
 
 /*
- * Reads a text into a list. DONE: HIGH the variables (the highest index plus 1, or 0), LOW the
- * commands. Rules 1 to 8, 19.
+ * The setting of a lesson, which every call that is given a program takes first. Under
+ * MUDZKVOPI_LOOP_ONLY a `while` or `endwhile` line is refused (rule 20); a program that has none is
+ * answered as under MUDZKVOPI_ANY. A number other than these two counts as MUDZKVOPI_LOOP_ONLY: a
+ * set that is told something it doesn't know stays on the strict side. Every program accepted under
+ * MUDZKVOPI_LOOP_ONLY halts from all starting values on unlimited registers, and so does its word
+ * (claim LoopProgramsHalt); a run here may still end as SPENT or FULL.
  */
-uint64_t mudzkvopi_read_program(
-    const uint8_t *text, size_t text_len, uint8_t *list, size_t list_len);
-
-/* Writes a list as a text. DONE: LOW the bytes. Rules 3 to 8, 19. */
-uint64_t mudzkvopi_write_program(
-    const uint8_t *list, size_t list_len, uint8_t *text, size_t text_len);
+#define MUDZKVOPI_ANY 0
+#define MUDZKVOPI_LOOP_ONLY 1
 
 /*
- * Translates a program into its word. DONE: HIGH the instructions, LOW the symbols. Rules 1 to 8 (a
- * list: 3 to 8), 19.
+ * Reads a text into a list. DONE: HIGH the variables (the highest index plus 1, or 0), LOW the
+ * commands. Rules 1, 2, 3; each line by 4, 5, 20, 6, 7; 8; 19.
  */
-uint64_t mudzkvopi_translate(const uint8_t *text, size_t text_len, uint8_t *word, size_t word_len);
+uint64_t mudzkvopi_read_program(
+    uint32_t setting, const uint8_t *text, size_t text_len, uint8_t *list, size_t list_len);
+
+/* Writes a list as a text. DONE: LOW the bytes. Rules 3; each line by 4, 5, 20, 6, 7; 8; 19. */
+uint64_t mudzkvopi_write_program(
+    uint32_t setting, const uint8_t *list, size_t list_len, uint8_t *text, size_t text_len);
+
+/*
+ * Translates a program into its word. DONE: HIGH the instructions, LOW the symbols. Rules 1, 2, 3;
+ * each line by 4, 5, 20, 6, 7; 8; 19. A list: 3; each line by 4, 5, 20, 6, 7; 8; 19.
+ */
+uint64_t mudzkvopi_translate(
+    uint32_t setting, const uint8_t *text, size_t text_len, uint8_t *word, size_t word_len);
 uint64_t mudzkvopi_translate_list(
-    const uint8_t *list, size_t list_len, uint8_t *word, size_t word_len);
+    uint32_t setting, const uint8_t *list, size_t list_len, uint8_t *word, size_t word_len);
 
 /*
  * Runs of a program. A state is 51 numbers. A fresh state has a capacity of 1 to 1024, line 1, the
@@ -201,11 +219,16 @@ uint64_t mudzkvopi_translate_list(
 #define MUDZKVOPI_STATE_VALUES 3   /* 32 of them: variable i at 3 + i */
 #define MUDZKVOPI_STATE_PASSES 35  /* 16 of them: passes left of the loop inside so many others */
 
-/* Runs at most `budget` steps. HALTED, SPENT or FULL. Rules 1 to 8 (a list: 3 to 8), 9. */
+/*
+ * Runs at most `budget` steps. HALTED, SPENT or FULL. Rules 1, 2, 3; each line by 4, 5, 20, 6, 7;
+ * 8; 9. A list: 3; each line by 4, 5, 20, 6, 7; 8; 9.
+ */
 uint64_t mudzkvopi_run_source(
-    const uint8_t *text, size_t text_len, uint32_t *state, size_t state_len, uint32_t budget);
+    uint32_t setting, const uint8_t *text, size_t text_len, uint32_t *state, size_t state_len,
+    uint32_t budget);
 uint64_t mudzkvopi_run_source_list(
-    const uint8_t *list, size_t list_len, uint32_t *state, size_t state_len, uint32_t budget);
+    uint32_t setting, const uint8_t *list, size_t list_len, uint32_t *state, size_t state_len,
+    uint32_t budget);
 
 /*
  * Words. An instruction is n times '1' and then 1 to 5 times '#'. As numbers it has a kind, the
@@ -213,7 +236,7 @@ uint64_t mudzkvopi_run_source_list(
  * forward, 4 go n places backward, 5 cases on register n.
  */
 
-/* Reads a word into kinds and operands. DONE: LOW the instructions. Rules 11 to 14, 19. */
+/* Reads a word into kinds and operands. DONE: LOW the instructions. Rules 11, 12, 13, 14, 19. */
 uint64_t mudzkvopi_read_word(
     const uint8_t *word, size_t word_len, uint8_t *kinds, size_t kinds_len, uint32_t *operands,
     size_t operands_len);
@@ -235,7 +258,8 @@ uint64_t mudzkvopi_write_word(
  * capacity bytes, and `lengths` has the number of symbols of each register. Variable i of a program
  * is register i + 1, a value is so many '1', and all other registers are empty at the start.
  * `place` is the place of the next instruction, 1 at the start, and any value is allowed; `steps`
- * counts the steps of all runs so far. HALTED, STRAYED, SPENT or FULL. Rules 10 to 15.
+ * counts the steps of all runs so far. HALTED, STRAYED, SPENT or FULL. Rules 10, 11, 12, 13, 14,
+ * 15.
  */
 uint64_t mudzkvopi_run_word(
     uint32_t registers, uint32_t capacity, uint8_t *store, size_t store_len, uint16_t *lengths,

@@ -1,7 +1,7 @@
 /*
  * A host of the library in C: translates a program, prints its word as the label has it, runs the program and the word, and prints the
- * counts of both. Then the same from a list, a table run twice, a budget cut in two, a run that is full, and refusals. What it writes is
- * held to host-expected.txt.
+ * counts of both. Then the same from a list, a table run twice, a budget cut in two, a run that is full, the LOOP-only setting, and
+ * refusals. What it writes is held to host-expected.txt.
  */
 #include <inttypes.h>
 #include <stdio.h>
@@ -48,7 +48,7 @@ static void print_result(const char *call, uint64_t result)
 
 static uint64_t translate(const char *text)
 {
-    return mudzkvopi_translate((const uint8_t *)text, strlen(text), word, sizeof word);
+    return mudzkvopi_translate(MUDZKVOPI_ANY, (const uint8_t *)text, strlen(text), word, sizeof word);
 }
 
 /* A fresh state with one value. */
@@ -58,6 +58,11 @@ static void fresh_state(uint32_t *state, uint32_t capacity, uint32_t variable, u
     state[MUDZKVOPI_STATE_CAPACITY] = capacity;
     state[MUDZKVOPI_STATE_LINE] = 1;
     state[MUDZKVOPI_STATE_VALUES + variable] = value;
+}
+
+static uint64_t run_adder(uint32_t *state, size_t numbers, uint32_t budget)
+{
+    return mudzkvopi_run_source(MUDZKVOPI_ANY, (const uint8_t *)adder, strlen(adder), state, numbers, budget);
 }
 
 /* A machine whose registers are empty, but for the one of a variable. */
@@ -78,7 +83,7 @@ static void run_both(const char *text, uint32_t capacity, uint32_t variable, uin
     uint64_t result;
 
     fresh_state(state, capacity, variable, value);
-    result = mudzkvopi_run_source((const uint8_t *)text, strlen(text), state, MUDZKVOPI_STATE_NUMBERS, 100000);
+    result = mudzkvopi_run_source(MUDZKVOPI_ANY, (const uint8_t *)text, strlen(text), state, MUDZKVOPI_STATE_NUMBERS, 100000);
     print_result("source", result);
     printf("X0 is %" PRIu32 "\n", state[MUDZKVOPI_STATE_VALUES]);
 
@@ -105,17 +110,17 @@ static void from_list(void)
 {
     uint8_t list[MUDZKVOPI_MAX_LIST];
     uint8_t text[MUDZKVOPI_MAX_TEXT];
-    uint64_t read = mudzkvopi_read_program((const uint8_t *)adder, strlen(adder), list, sizeof list);
+    uint64_t read = mudzkvopi_read_program(MUDZKVOPI_ANY, (const uint8_t *)adder, strlen(adder), list, sizeof list);
     size_t numbers = 3 * (size_t)MUDZKVOPI_LOW(read);
-    uint64_t written = mudzkvopi_write_program(list, numbers, text, sizeof text);
+    uint64_t written = mudzkvopi_write_program(MUDZKVOPI_ANY, list, numbers, text, sizeof text);
     uint32_t state[MUDZKVOPI_STATE_NUMBERS];
 
     print_result("read_program", read);
     print_result("write_program", written);
     printf("%s text\n", memcmp(text, adder, strlen(adder)) == 0 ? "the same" : "another");
-    print_result("translate_list", mudzkvopi_translate_list(list, numbers, word, sizeof word));
+    print_result("translate_list", mudzkvopi_translate_list(MUDZKVOPI_ANY, list, numbers, word, sizeof word));
     fresh_state(state, CAPACITY, 1, 3);
-    print_result("run_source_list", mudzkvopi_run_source_list(list, numbers, state, MUDZKVOPI_STATE_NUMBERS, 100000));
+    print_result("run_source_list", mudzkvopi_run_source_list(MUDZKVOPI_ANY, list, numbers, state, MUDZKVOPI_STATE_NUMBERS, 100000));
 }
 
 /* A word as instructions, and back. */
@@ -158,9 +163,39 @@ static void cut_in_two(void)
     uint32_t state[MUDZKVOPI_STATE_NUMBERS];
 
     fresh_state(state, CAPACITY, 1, 3);
-    print_result("first 4", mudzkvopi_run_source((const uint8_t *)adder, strlen(adder), state, MUDZKVOPI_STATE_NUMBERS, 4));
-    print_result("the rest", mudzkvopi_run_source((const uint8_t *)adder, strlen(adder), state, MUDZKVOPI_STATE_NUMBERS, 100000));
+    print_result("first 4", run_adder(state, MUDZKVOPI_STATE_NUMBERS, 4));
+    print_result("the rest", run_adder(state, MUDZKVOPI_STATE_NUMBERS, 100000));
     printf("%" PRIu32 " steps, X0 is %" PRIu32 "\n", state[MUDZKVOPI_STATE_STEPS], state[MUDZKVOPI_STATE_VALUES]);
+}
+
+/*
+ * Every call that is given a program, under a setting: a program with a `while` in its second line, as text and as list, and what became
+ * of the lent memory; then a LOOP program.
+ */
+static void lesson(uint32_t setting)
+{
+    static const char text[] = "loop X1\nwhile X0 != 0\nX0 <- 0\nendwhile X0 != 0\nendloop X1\n";
+    static const uint8_t list[] = { 4, 1, 0, 6, 0, 0, 1, 0, 0, 7, 0, 0, 5, 1, 0 };
+    const uint8_t *bytes = (const uint8_t *)text;
+    uint8_t out[512], untouched[sizeof out];
+    uint32_t first[MUDZKVOPI_STATE_NUMBERS], second[MUDZKVOPI_STATE_NUMBERS], fresh[MUDZKVOPI_STATE_NUMBERS];
+    int same;
+
+    memset(out, '?', sizeof out);
+    memset(untouched, '?', sizeof untouched);
+    fresh_state(first, CAPACITY, 1, 3);
+    fresh_state(second, CAPACITY, 1, 3);
+    fresh_state(fresh, CAPACITY, 1, 3);
+    printf("setting %" PRIu32 "\n", setting);
+    print_result("read_program", mudzkvopi_read_program(setting, bytes, strlen(text), out, sizeof out));
+    print_result("write_program", mudzkvopi_write_program(setting, list, sizeof list, out, sizeof out));
+    print_result("translate", mudzkvopi_translate(setting, bytes, strlen(text), out, sizeof out));
+    print_result("translate_list", mudzkvopi_translate_list(setting, list, sizeof list, out, sizeof out));
+    print_result("run_source", mudzkvopi_run_source(setting, bytes, strlen(text), first, MUDZKVOPI_STATE_NUMBERS, 100000));
+    print_result("run_source_list", mudzkvopi_run_source_list(setting, list, sizeof list, second, MUDZKVOPI_STATE_NUMBERS, 100000));
+    same = memcmp(out, untouched, sizeof out) == 0 && memcmp(first, fresh, sizeof fresh) == 0 && memcmp(second, fresh, sizeof fresh) == 0;
+    printf("%s\n", same ? "all that was lent is as it was" : "what was lent is written");
+    print_result("a LOOP program", mudzkvopi_translate(setting, (const uint8_t *)adder, strlen(adder), out, sizeof out));
 }
 
 static void refusals(void)
@@ -171,10 +206,10 @@ static void refusals(void)
 
     print_result("index 32", translate("X0 <- 0\nX32 <- 0\n"));
     print_result("left open", translate("loop X1\n"));
-    print_result("no room", mudzkvopi_translate((const uint8_t *)adder, strlen(adder), word, 82));
+    print_result("no room", mudzkvopi_translate(MUDZKVOPI_ANY, (const uint8_t *)adder, strlen(adder), word, 82));
     fresh_state(state, CAPACITY, 2, 1);
-    print_result("a value too many", mudzkvopi_run_source((const uint8_t *)adder, strlen(adder), state, MUDZKVOPI_STATE_NUMBERS, 1));
-    print_result("50 numbers", mudzkvopi_run_source((const uint8_t *)adder, strlen(adder), state, 50, 1));
+    print_result("a value too many", run_adder(state, MUDZKVOPI_STATE_NUMBERS, 1));
+    print_result("50 numbers", run_adder(state, 50, 1));
     fresh_machine(CAPACITY, 0, 1);
     print_result("short store", mudzkvopi_run_word(2, CAPACITY, store, CAPACITY, lengths, 2, &place, &steps, (const uint8_t *)"1#", 2, 1));
     print_result(
@@ -198,6 +233,9 @@ int main(void)
     table();
     cut_in_two();
     run_both("X0 <- X0 + 1\n", 2, 0, 2);
+    lesson(MUDZKVOPI_ANY);
+    lesson(MUDZKVOPI_LOOP_ONLY);
+    lesson(7); /* counts as LOOP-only */
     refusals();
     return 0;
 }

@@ -26,12 +26,21 @@ static int32_t place = 1;
 static uint32_t steps;
 
 static void version(void) { mudzkvopi_version(); }
-static void read_program(void) { mudzkvopi_read_program((uint8_t *)text, text_len, list, sizeof list); }
-static void write_program(void) { mudzkvopi_write_program(list, sizeof list, bytes, sizeof bytes); }
-static void translate(void) { word_len = MUDZKVOPI_LOW(mudzkvopi_translate((uint8_t *)text, text_len, word, sizeof word)); }
-static void translate_list(void) { mudzkvopi_translate_list(list, sizeof list, word, sizeof word); }
-static void run_source(void) { mudzkvopi_run_source((uint8_t *)text, text_len, state, MUDZKVOPI_STATE_NUMBERS, 1000); }
-static void run_source_list(void) { mudzkvopi_run_source_list(list, sizeof list, state, MUDZKVOPI_STATE_NUMBERS, 1000); }
+static void read_program(void) { mudzkvopi_read_program(MUDZKVOPI_ANY, (uint8_t *)text, text_len, list, sizeof list); }
+static void write_program(void) { mudzkvopi_write_program(MUDZKVOPI_ANY, list, sizeof list, bytes, sizeof bytes); }
+static void translate(void)
+{
+    word_len = MUDZKVOPI_LOW(mudzkvopi_translate(MUDZKVOPI_ANY, (uint8_t *)text, text_len, word, sizeof word));
+}
+static void translate_list(void) { mudzkvopi_translate_list(MUDZKVOPI_ANY, list, sizeof list, word, sizeof word); }
+static void run_source(void)
+{
+    mudzkvopi_run_source(MUDZKVOPI_ANY, (uint8_t *)text, text_len, state, MUDZKVOPI_STATE_NUMBERS, 1000);
+}
+static void run_source_list(void)
+{
+    mudzkvopi_run_source_list(MUDZKVOPI_ANY, list, sizeof list, state, MUDZKVOPI_STATE_NUMBERS, 1000);
+}
 static void read_word(void)
 {
     count = MUDZKVOPI_LOW(mudzkvopi_read_word(word, word_len, kinds, sizeof kinds, operands, MUDZKVOPI_MAX_INSTRUCTIONS));

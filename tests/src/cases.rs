@@ -4,7 +4,7 @@
 #[cfg(feature = "library")]
 use crate::library::{self, Code, RunTool};
 use crate::machine::Machine;
-use crate::program::{self, list, variables, write, Command};
+use crate::program::{self, list, variables, write, Command, Setting};
 use crate::source::{self, State};
 use crate::translation::translate;
 use crate::word::{self, spell, Instruction};
@@ -14,6 +14,18 @@ use std::iter::successors;
 
 /// What lent outputs are filled with, to see what of them was written.
 const FILL: u8 = 0xa5;
+
+/// The settings as the C entries are given them.
+pub const ANY: u32 = 0;
+pub const LOOP_ONLY: u32 = 1;
+
+/// The setting that a number stands for: one that is neither of these counts as LOOP-only.
+pub fn setting_of(number: u32) -> Setting {
+    match number {
+        ANY => Setting::Any,
+        _ => Setting::LoopOnly,
+    }
+}
 
 #[derive(Clone)]
 pub enum Program {
@@ -31,18 +43,18 @@ impl fmt::Debug for Program {
 }
 
 impl Program {
-    pub fn read(&self) -> Result<Vec<Command>, Refusal> {
+    pub fn read(&self, setting: Setting) -> Result<Vec<Command>, Refusal> {
         match self {
-            Program::Text(text) => program::read(text),
-            Program::List(list) => program::read_list(list),
+            Program::Text(text) => program::read(setting, text),
+            Program::List(list) => program::read_list(setting, list),
         }
     }
 
     /// The program in the other form.
-    pub fn converted(&self) -> Result<Vec<u8>, Refusal> {
+    pub fn converted(&self, setting: Setting) -> Result<Vec<u8>, Refusal> {
         match self {
-            Program::Text(_) => self.read().map(|c| list(&c)),
-            Program::List(_) => self.read().map(|c| write(&c)),
+            Program::Text(_) => self.read(setting).map(|c| list(&c)),
+            Program::List(_) => self.read(setting).map(|c| write(&c)),
         }
     }
 
@@ -58,9 +70,9 @@ impl Program {
 /// a text.
 #[derive(Clone)]
 pub enum Case {
-    Convert { program: Program, lent: usize },
-    Translate { program: Program, lent: usize },
-    RunSource { program: Program, state: Vec<u32>, budget: u32 },
+    Convert { setting: u32, program: Program, lent: usize },
+    Translate { setting: u32, program: Program, lent: usize },
+    RunSource { setting: u32, program: Program, state: Vec<u32>, budget: u32 },
     ReadWord { word: Vec<u8>, kinds: usize, operands: usize },
     WriteWord { kinds: Vec<u8>, operands: Vec<u32>, lent: usize },
     RunWord { word: Vec<u8>, machine: Machine, budget: u32 },
@@ -71,8 +83,12 @@ pub enum Case {
 impl fmt::Debug for Case {
     fn fmt(&self, f: &mut fmt::Formatter) -> fmt::Result {
         match self {
-            Case::Convert { program, lent } | Case::Translate { program, lent } => write!(f, "{program:?}, lent {lent}"),
-            Case::RunSource { program, state, budget } => write!(f, "{program:?}, state {state:?}, budget {budget}"),
+            Case::Convert { setting, program, lent } | Case::Translate { setting, program, lent } => {
+                write!(f, "setting {setting}, {program:?}, lent {lent}")
+            }
+            Case::RunSource { setting, program, state, budget } => {
+                write!(f, "setting {setting}, {program:?}, state {state:?}, budget {budget}")
+            }
             Case::ReadWord { word, kinds, operands } => write!(f, "\"{}\", lent {kinds} and {operands}", word.escape_ascii()),
             Case::WriteWord { kinds, operands, lent } => write!(f, "kinds {kinds:?}, operands {operands:?}, lent {lent}"),
             Case::RunWord { word, machine, budget } => write!(f, "\"{}\", {machine:?}, budget {budget}", word.escape_ascii()),
@@ -133,8 +149,8 @@ fn zipped(kinds: &[u8], operands: &[u32]) -> Vec<Instruction> {
     (0..kinds.len().max(operands.len())).map(at).collect()
 }
 
-fn run_source(program: &Program, numbers: &[u32], budget: u32) -> Outcome {
-    let checked = program.read().and_then(|commands| {
+fn run_source(setting: Setting, program: &Program, numbers: &[u32], budget: u32) -> Outcome {
+    let checked = program.read(setting).and_then(|commands| {
         let Some(state) = State::from_numbers(numbers) else { return refuse(9, 0) };
         source::check(&commands, &state).map(|()| (commands, state))
     });
@@ -197,16 +213,20 @@ impl Case {
 
     pub fn twin(&self) -> Outcome {
         match self {
-            Case::Convert { program, lent } => match program {
-                Program::Text(_) => written(program.converted(), *lent, program.read().map_or(0, |c| variables(&c)), 3),
-                Program::List(_) => written(program.converted(), *lent, 0, 1),
-            },
-            Case::Translate { program, lent } => {
-                let table = program.read().map(|c| translate(&c));
+            Case::Convert { setting, program, lent } => {
+                let setting = setting_of(*setting);
+                let (high, low) = match program {
+                    Program::Text(_) => (program.read(setting).map_or(0, |c| variables(&c)), 3),
+                    Program::List(_) => (0, 1),
+                };
+                written(program.converted(setting), *lent, high, low)
+            }
+            Case::Translate { setting, program, lent } => {
+                let table = program.read(setting_of(*setting)).map(|c| translate(&c));
                 let high = table.as_ref().map_or(0, |t| t.len());
                 written(table.map(|t| spell(&t)), *lent, high, 1)
             }
-            Case::RunSource { program, state, budget } => run_source(program, state, *budget),
+            Case::RunSource { setting, program, state, budget } => run_source(setting_of(*setting), program, state, *budget),
             Case::ReadWord { word, kinds, operands } => read_word(word, *kinds, *operands),
             Case::WriteWord { kinds, operands, lent } => {
                 let table = zipped(kinds, operands);
@@ -233,15 +253,19 @@ impl Case {
             Outcome { answer, memory: memory(&machine) }
         };
         match self {
-            Case::Convert { program: Program::Text(text), lent } => bytes(*lent, &|out| library::read_program(text, out)),
-            Case::Convert { program: Program::List(list), lent } => bytes(*lent, &|out| library::write_program(list, out)),
-            Case::Translate { program: Program::Text(text), lent } => bytes(*lent, &|out| library::translate(text, out)),
-            Case::Translate { program: Program::List(list), lent } => bytes(*lent, &|out| library::translate_list(list, out)),
-            Case::RunSource { program, state, budget } => {
+            Case::Convert { setting, program, lent } => bytes(*lent, &|out| match program {
+                Program::Text(text) => library::read_program(*setting, text, out),
+                Program::List(list) => library::write_program(*setting, list, out),
+            }),
+            Case::Translate { setting, program, lent } => bytes(*lent, &|out| match program {
+                Program::Text(text) => library::translate(*setting, text, out),
+                Program::List(list) => library::translate_list(*setting, list, out),
+            }),
+            Case::RunSource { setting, program, state, budget } => {
                 let mut memory = state.clone();
                 let answer = match program {
-                    Program::Text(text) => library::run_source(text, &mut memory, *budget),
-                    Program::List(list) => library::run_source_list(list, &mut memory, *budget),
+                    Program::Text(text) => library::run_source(*setting, text, &mut memory, *budget),
+                    Program::List(list) => library::run_source_list(*setting, list, &mut memory, *budget),
                 };
                 Outcome { answer, memory }
             }
@@ -260,20 +284,17 @@ impl Case {
     /// Cases with a little less in them.
     pub fn smaller(&self) -> Box<dyn Iterator<Item = Case> + '_> {
         match self {
-            Case::Convert { program, lent } => {
-                let programs = program.shorter().map(|program| Case::Convert { program, lent: *lent });
-                Box::new(programs.chain(less(*lent).map(|lent| Case::Convert { program: program.clone(), lent })))
+            Case::Convert { setting, program, lent } => {
+                Box::new(with_less(*setting, program, *lent).map(|(setting, program, lent)| Case::Convert { setting, program, lent }))
             }
-            Case::Translate { program, lent } => {
-                let programs = program.shorter().map(|program| Case::Translate { program, lent: *lent });
-                Box::new(programs.chain(less(*lent).map(|lent| Case::Translate { program: program.clone(), lent })))
+            Case::Translate { setting, program, lent } => {
+                Box::new(with_less(*setting, program, *lent).map(|(setting, program, lent)| Case::Translate { setting, program, lent }))
             }
-            Case::RunSource { program, state, budget } => {
-                let programs = program.shorter().map(|program| Case::RunSource { program, state: state.clone(), budget: *budget });
-                let states = lower(state).map(|state| Case::RunSource { program: program.clone(), state, budget: *budget });
-                let budgets =
-                    less(*budget as usize).map(|b| Case::RunSource { program: program.clone(), state: state.clone(), budget: b as u32 });
-                Box::new(programs.chain(states).chain(budgets))
+            Case::RunSource { setting, program, state, budget } => {
+                let calls = with_less(*setting, program, *budget as usize);
+                let calls = calls.map(|(setting, program, b)| Case::RunSource { setting, program, state: state.clone(), budget: b as u32 });
+                let with = |state| Case::RunSource { setting: *setting, program: program.clone(), state, budget: *budget };
+                Box::new(calls.chain(lower(state).map(with)))
             }
             Case::ReadWord { word, kinds, operands } => {
                 let words = shorter(word).map(|word| Case::ReadWord { word, kinds: *kinds, operands: *operands });
@@ -318,6 +339,13 @@ fn shorter<T: Clone>(items: &[T]) -> impl Iterator<Item = Vec<T>> + '_ {
     pieces.flat_map(move |piece| {
         (0..items.len()).step_by(piece).map(move |at| [&items[..at], &items[(at + piece).min(items.len())..]].concat())
     })
+}
+
+/// A call that is given a program, with less of the program, a lower number of the setting, or less of what else it has.
+fn with_less(setting: u32, program: &Program, rest: usize) -> impl Iterator<Item = (u32, Program, usize)> + '_ {
+    let programs = program.shorter().map(move |program| (setting, program, rest));
+    let settings = less(setting as usize).map(move |setting| (setting as u32, program.clone(), rest));
+    programs.chain(settings).chain(less(rest).map(move |rest| (setting, program.clone(), rest)))
 }
 
 fn less(n: usize) -> impl Iterator<Item = usize> {

@@ -1,7 +1,7 @@
 //! Cases at the limits: the last thing that each rule lets pass and the first that it turns down, alone and with faults of other rules.
 
 use crate::machine::{self, Machine};
-use crate::program::{self, list, read, variables, Command, Kind};
+use crate::program::{self, list, read, variables, Command, Kind, Setting};
 use crate::source::{self, State};
 use crate::tool::WORD_BYTES;
 use crate::translation::translate;
@@ -53,6 +53,27 @@ pub const NEARLY: [&str; 40] = [
     "while X0 != 1",
     "while X0 !=0",
     "endwhile X0 != 00",
+];
+
+/// Numbers of a setting that count as LOOP-only; some are 0 in their last 8, 16 or 31 bits.
+pub const OTHER_SETTINGS: [u32; 7] = [2, 7, 255, 256, 65_536, 1 << 31, u32::MAX];
+
+/// Lines that rule 20 or a rule beside it turns down, and some that none does, as text and as numbers.
+const BESIDE_20: [(&str, [u8; 3]); 14] = [
+    ("X0 <- 0", [1, 0, 0]),
+    ("z", [8, 0, 0]),
+    ("X32 <- 0", [1, 32, 0]),
+    ("loop X0", [4, 0, 0]),
+    ("loop X32", [4, 32, 0]),
+    ("endloop X0", [5, 0, 0]),
+    ("endloop X1", [5, 1, 0]),
+    ("while X0 != 0", [6, 0, 0]),
+    ("while X0 != 1", [6, 0, 1]),
+    ("while X32 != 0", [6, 32, 0]),
+    ("endwhile X0 != 0", [7, 0, 0]),
+    ("endwhile X1 != 0", [7, 1, 0]),
+    ("endwhile X0 != 1", [7, 0, 1]),
+    ("endwhile X32 != 0", [7, 32, 0]),
 ];
 
 /// Programs that halt, go on for ever, or get full, each with the values that it starts from.
@@ -183,6 +204,33 @@ pub fn lists() -> Vec<Vec<u8>> {
     found
 }
 
+/// Two lines beside rule 20 inside so many loops, closed or not: each pair of them as a text and as a list.
+pub fn beside_20() -> Vec<(Vec<u8>, Vec<u8>)> {
+    let (open, close) = ((String::from("loop X0"), [4, 0, 0]), (String::from("endloop X0"), [5, 0, 0]));
+    let mut found = Vec::new();
+    for (depth, closed) in [(0, false), (1, false), (1, true), (15, true), (16, false), (16, true)] {
+        for (first, second) in BESIDE_20.into_iter().flat_map(|first| BESIDE_20.map(|second| (first, second))) {
+            let mut commands = vec![open.clone(); depth];
+            commands.extend([first, second].map(|(line, numbers)| (line.to_string(), numbers)));
+            commands.extend(vec![close.clone(); if closed { depth } else { 0 }]);
+            let (texts, numbers): (Vec<_>, Vec<_>) = commands.into_iter().unzip();
+            found.push((lines(&texts), numbers.concat()));
+        }
+    }
+    found
+}
+
+/// Texts with a `while` that rules 1 to 3 turn down, that is the last of 512 lines, and LOOP programs as long.
+pub fn long_whiles() -> Vec<Vec<u8>> {
+    let with_last = |count: usize, last: &str| lines(&[vec!["X0 <- 0".to_string(); count], vec![last.to_string()]].concat());
+    let whiles = |bytes: usize| [b"while X0 != 0\n".to_vec(), vec![b'X'; bytes]].concat();
+    let mut found = vec![whiles(program::BYTES - 13), whiles(program::BYTES - 14), whiles(1), b"while X0 != 0".to_vec()];
+    for count in [510, 511, 512] {
+        found.extend(["X0 <- 0", "while X0 != 0", "endwhile X0 != 0", "while X32 != 0", "endloop X0"].map(|last| with_last(count, last)));
+    }
+    found
+}
+
 /// Words, good or not.
 pub fn words() -> Vec<Vec<u8>> {
     let ones = |n: usize, marks: usize| [vec![b'1'; n], vec![b'#'; marks]].concat();
@@ -201,7 +249,7 @@ pub fn words() -> Vec<Vec<u8>> {
     let mut late = ones(most - 1, 1);
     late[most - 1] = b'2';
     found.push(late);
-    found.extend(SAMPLES.iter().filter_map(|(text, _)| Some(spell(&translate(&read(text).ok()?)))));
+    found.extend(SAMPLES.iter().filter_map(|(text, _)| Some(spell(&translate(&read(Setting::Any, text).ok()?)))));
     found
 }
 

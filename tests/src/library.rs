@@ -8,12 +8,12 @@ use std::process::Command;
 use std::{env, fs, process};
 
 extern "C" {
-    fn mudzkvopi_read_program(text: *const u8, text_len: usize, list: *mut u8, list_len: usize) -> u64;
-    fn mudzkvopi_write_program(list: *const u8, list_len: usize, text: *mut u8, text_len: usize) -> u64;
-    fn mudzkvopi_translate(text: *const u8, text_len: usize, word: *mut u8, word_len: usize) -> u64;
-    fn mudzkvopi_translate_list(list: *const u8, list_len: usize, word: *mut u8, word_len: usize) -> u64;
-    fn mudzkvopi_run_source(text: *const u8, text_len: usize, state: *mut u32, state_len: usize, budget: u32) -> u64;
-    fn mudzkvopi_run_source_list(list: *const u8, list_len: usize, state: *mut u32, state_len: usize, budget: u32) -> u64;
+    fn mudzkvopi_read_program(setting: u32, text: *const u8, text_len: usize, list: *mut u8, list_len: usize) -> u64;
+    fn mudzkvopi_write_program(setting: u32, list: *const u8, list_len: usize, text: *mut u8, text_len: usize) -> u64;
+    fn mudzkvopi_translate(setting: u32, text: *const u8, text_len: usize, word: *mut u8, word_len: usize) -> u64;
+    fn mudzkvopi_translate_list(setting: u32, list: *const u8, list_len: usize, word: *mut u8, word_len: usize) -> u64;
+    fn mudzkvopi_run_source(setting: u32, text: *const u8, text_len: usize, state: *mut u32, state_len: usize, budget: u32) -> u64;
+    fn mudzkvopi_run_source_list(setting: u32, list: *const u8, list_len: usize, state: *mut u32, state_len: usize, budget: u32) -> u64;
     fn mudzkvopi_read_word(
         word: *const u8,
         word_len: usize,
@@ -75,28 +75,28 @@ fn unpack(packed: u64) -> Answer {
 
 // Each call hands over whole slices, which is all that the entries ask for.
 
-pub fn read_program(text: &[u8], list: &mut [u8]) -> Answer {
-    unpack(unsafe { mudzkvopi_read_program(text.as_ptr(), text.len(), list.as_mut_ptr(), list.len()) })
+pub fn read_program(setting: u32, text: &[u8], list: &mut [u8]) -> Answer {
+    unpack(unsafe { mudzkvopi_read_program(setting, text.as_ptr(), text.len(), list.as_mut_ptr(), list.len()) })
 }
 
-pub fn write_program(list: &[u8], text: &mut [u8]) -> Answer {
-    unpack(unsafe { mudzkvopi_write_program(list.as_ptr(), list.len(), text.as_mut_ptr(), text.len()) })
+pub fn write_program(setting: u32, list: &[u8], text: &mut [u8]) -> Answer {
+    unpack(unsafe { mudzkvopi_write_program(setting, list.as_ptr(), list.len(), text.as_mut_ptr(), text.len()) })
 }
 
-pub fn translate(text: &[u8], word: &mut [u8]) -> Answer {
-    unpack(unsafe { mudzkvopi_translate(text.as_ptr(), text.len(), word.as_mut_ptr(), word.len()) })
+pub fn translate(setting: u32, text: &[u8], word: &mut [u8]) -> Answer {
+    unpack(unsafe { mudzkvopi_translate(setting, text.as_ptr(), text.len(), word.as_mut_ptr(), word.len()) })
 }
 
-pub fn translate_list(list: &[u8], word: &mut [u8]) -> Answer {
-    unpack(unsafe { mudzkvopi_translate_list(list.as_ptr(), list.len(), word.as_mut_ptr(), word.len()) })
+pub fn translate_list(setting: u32, list: &[u8], word: &mut [u8]) -> Answer {
+    unpack(unsafe { mudzkvopi_translate_list(setting, list.as_ptr(), list.len(), word.as_mut_ptr(), word.len()) })
 }
 
-pub fn run_source(text: &[u8], state: &mut [u32], budget: u32) -> Answer {
-    unpack(unsafe { mudzkvopi_run_source(text.as_ptr(), text.len(), state.as_mut_ptr(), state.len(), budget) })
+pub fn run_source(setting: u32, text: &[u8], state: &mut [u32], budget: u32) -> Answer {
+    unpack(unsafe { mudzkvopi_run_source(setting, text.as_ptr(), text.len(), state.as_mut_ptr(), state.len(), budget) })
 }
 
-pub fn run_source_list(list: &[u8], state: &mut [u32], budget: u32) -> Answer {
-    unpack(unsafe { mudzkvopi_run_source_list(list.as_ptr(), list.len(), state.as_mut_ptr(), state.len(), budget) })
+pub fn run_source_list(setting: u32, list: &[u8], state: &mut [u32], budget: u32) -> Answer {
+    unpack(unsafe { mudzkvopi_run_source_list(setting, list.as_ptr(), list.len(), state.as_mut_ptr(), state.len(), budget) })
 }
 
 pub fn read_word(word: &[u8], kinds: &mut [u8], operands: &mut [u32]) -> Answer {

@@ -1,7 +1,8 @@
 //! The examples of docs/REFUSALS.md and docs/STUDENTS.md, read from the pages themselves, as the cases that try them.
 
-use crate::cases::{Case, Program};
+use crate::cases::{Case, Program, ANY, LOOP_ONLY};
 use crate::machine::{Machine, REGISTERS};
+use crate::program::Setting;
 use crate::source::State;
 use crate::Refusal;
 
@@ -85,12 +86,17 @@ pub fn examples(page: &str) -> Vec<Example> {
 }
 
 /// Every call that is given a program.
-fn of_program(program: Program, state: State) -> Vec<Case> {
+fn of_program(setting: u32, program: Program) -> Vec<Case> {
     vec![
-        Case::Convert { program: program.clone(), lent: 16_384 },
-        Case::Translate { program: program.clone(), lent: 600_000 },
-        Case::RunSource { program, state: state.numbers().to_vec(), budget: 1 },
+        Case::Convert { setting, program: program.clone(), lent: 16_384 },
+        Case::Translate { setting, program: program.clone(), lent: 600_000 },
+        Case::RunSource { setting, program, state: State::fresh(1, [0; 32]).numbers().to_vec(), budget: 1 },
     ]
+}
+
+/// The same under the LOOP-only setting, by its number and by two that count as it.
+fn of_lesson(program: Program) -> Vec<Case> {
+    [LOOP_ONLY, 2, u32::MAX].into_iter().flat_map(|setting| of_program(setting, program.clone())).collect()
 }
 
 /// The kinds and the operands of a table.
@@ -128,18 +134,21 @@ impl Example {
     pub fn cases(&self) -> Vec<Case> {
         let text = || self.texts[0].clone();
         let numbers = self.numbers.concat();
-        let fresh = State::fresh(1, [0; 32]);
+        let list = || Program::List(numbers.iter().map(|&n| n as u8).collect());
         match self.kind.as_str() {
             "program" => {
-                let mut cases = of_program(Program::Text(text()), fresh);
+                let mut cases = of_program(ANY, Program::Text(text()));
                 cases.push(Case::Report { text: text(), sheet: b"\n".to_vec() });
                 cases
             }
-            "list" => of_program(Program::List(numbers.iter().map(|&n| n as u8).collect()), fresh),
+            "list" => of_program(ANY, list()),
+            "loop-only" => of_lesson(Program::Text(text())),
+            "loop-only-list" => of_lesson(list()),
             "source" => {
                 let program = Program::Text(text());
-                let list = Program::List(program.converted().expect("an accepted program"));
-                let run = |program: Program| Case::RunSource { program, state: self.state().numbers().to_vec(), budget: 1 };
+                let list = Program::List(program.converted(Setting::Any).expect("an accepted program"));
+                let state = self.state().numbers().to_vec();
+                let run = |program: Program| Case::RunSource { setting: ANY, program, state: state.clone(), budget: 1 };
                 vec![run(program), run(list)]
             }
             "memory" => vec![
@@ -165,7 +174,7 @@ impl Example {
             }
             "machine" => vec![Case::RunWord { word: text(), machine: Machine::fresh(numbers[0] as usize, 1, &[]), budget: 1 }],
             "sheet" => vec![Case::Report { text: text(), sheet: self.texts[1].clone() }],
-            "translate" => vec![Case::Translate { program: Program::Text(text()), lent: numbers[0] as usize }],
+            "translate" => vec![Case::Translate { setting: ANY, program: Program::Text(text()), lent: numbers[0] as usize }],
             other => panic!("{other} is no kind of example"),
         }
     }

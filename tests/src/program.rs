@@ -1,4 +1,4 @@
-//! The program text: commands, spellings, the list of three numbers a command, rules 1 to 8.
+//! The program text: commands, spellings, the list of three numbers a command, rules 1 to 8, and rule 20 of the LOOP-only lesson.
 
 use crate::{refuse, Refusal};
 
@@ -6,6 +6,13 @@ pub const BYTES: usize = 16_384;
 pub const LINES: usize = 512;
 pub const INDEX: u64 = 31;
 pub const OPEN: usize = 16;
+
+/// What a lesson lets students write: LOOP and WHILE, or LOOP alone.
+#[derive(Clone, Copy, PartialEq, Eq, Debug)]
+pub enum Setting {
+    Any,
+    LoopOnly,
+}
 
 #[derive(Clone, Copy, PartialEq, Eq, Debug)]
 pub enum Kind {
@@ -121,8 +128,8 @@ pub fn command(line: &[u8]) -> Option<Command> {
     }
 }
 
-/// Rules 3 to 8, of lines or of the commands of a list; `None` is a line that is no spelling.
-pub fn check(lines: &[Option<Command>]) -> Result<Vec<Command>, Refusal> {
+/// Rules 3 to 8 and 20, of lines or of the commands of a list; `None` is a line that is no spelling. 20 "stands after 5 and before 6".
+pub fn check(setting: Setting, lines: &[Option<Command>]) -> Result<Vec<Command>, Refusal> {
     if lines.len() > LINES {
         return refuse(3, LINES + 1);
     }
@@ -133,6 +140,9 @@ pub fn check(lines: &[Option<Command>]) -> Result<Vec<Command>, Refusal> {
         let Some(command) = *line else { return refuse(4, place) };
         if command.indices().iter().any(|&i| i > INDEX) {
             return refuse(5, place);
+        }
+        if setting == Setting::LoopOnly && matches!(command, Command::Open(Kind::While, _) | Command::Close(Kind::While, _)) {
+            return refuse(20, place);
         }
         match command {
             Command::Open(..) if open.len() == OPEN => return refuse(6, place),
@@ -151,8 +161,8 @@ pub fn check(lines: &[Option<Command>]) -> Result<Vec<Command>, Refusal> {
     }
 }
 
-/// A text, by rules 1 to 8.
-pub fn read(text: &[u8]) -> Result<Vec<Command>, Refusal> {
+/// A text, by rules 1 to 8 and 20.
+pub fn read(setting: Setting, text: &[u8]) -> Result<Vec<Command>, Refusal> {
     if text.len() > BYTES {
         return refuse(1, 0);
     }
@@ -161,13 +171,13 @@ pub fn read(text: &[u8]) -> Result<Vec<Command>, Refusal> {
         return refuse(2, feeds + 1);
     }
     let lines: Vec<_> = text.split(|&b| b == b'\n').take(feeds).map(command).collect();
-    check(&lines)
+    check(setting, &lines)
 }
 
-/// A list of three numbers a command, by rules 3 to 8.
-pub fn read_list(list: &[u8]) -> Result<Vec<Command>, Refusal> {
+/// A list of three numbers a command, by rules 3 to 8 and 20.
+pub fn read_list(setting: Setting, list: &[u8]) -> Result<Vec<Command>, Refusal> {
     let commands: Vec<_> = list.chunks(3).map(Command::from_numbers).collect();
-    check(&commands)
+    check(setting, &commands)
 }
 
 pub fn list(commands: &[Command]) -> Vec<u8> {

@@ -1,8 +1,9 @@
 //! Cases by chance, the same for the same seed: programs, words, states, sheets, and damage to them.
 
-use crate::edges::NEARLY;
+use crate::cases::{ANY, LOOP_ONLY};
+use crate::edges::{NEARLY, OTHER_SETTINGS};
 use crate::machine::{self, Machine};
-use crate::program::{list, variables, write, Command, Kind, OPEN};
+use crate::program::{list, variables, write, Command, Kind, Setting, OPEN};
 use crate::source::{self, State};
 use crate::translation::translate;
 use crate::word::{spell, Instruction};
@@ -47,8 +48,8 @@ impl Random {
         }
     }
 
-    /// A well-nested program of about `lines` lines over variables below `names`.
-    pub fn program(&mut self, lines: usize, names: usize) -> Vec<Command> {
+    /// A well-nested program of about `lines` lines over variables below `names`, with no WHILE under the LOOP-only setting.
+    pub fn program(&mut self, setting: Setting, lines: usize, names: usize) -> Vec<Command> {
         let mut commands = Vec::new();
         let mut open: Vec<(Kind, u64)> = Vec::new();
         while commands.len() < lines {
@@ -57,7 +58,10 @@ impl Random {
                 0 => Command::Clear(index),
                 1..=3 => Command::Increment(index),
                 4 | 5 => Command::Copy { to: index, from: self.below(names) as u64 },
-                6 | 7 if open.len() < OPEN => Command::Open(if self.once_in(3) { Kind::While } else { Kind::Loop }, index),
+                6 | 7 if open.len() < OPEN => {
+                    let is_while = setting == Setting::Any && self.once_in(3);
+                    Command::Open(if is_while { Kind::While } else { Kind::Loop }, index)
+                }
                 _ => match open.last() {
                     Some(&(kind, index)) => Command::Close(kind, index),
                     None => Command::Increment(index),
@@ -78,7 +82,7 @@ impl Random {
         commands
     }
 
-    fn sized_program(&mut self) -> Vec<Command> {
+    fn sized_program(&mut self, setting: Setting) -> Vec<Command> {
         let lines = match self.below(12) {
             0 => 0,
             1 => self.near(40, 512),
@@ -86,7 +90,7 @@ impl Random {
             _ => 1 + self.below(14),
         };
         let names = if self.once_in(6) { 32 } else { 1 + self.below(5) };
-        let mut commands = self.program(lines, names);
+        let mut commands = self.program(setting, lines, names);
         if self.once_in(20) {
             let depth = OPEN - 2 + self.below(4);
             let index = self.below(names) as u64;
@@ -96,9 +100,18 @@ impl Random {
         commands
     }
 
+    /// A setting as the C entries are given it: any, LOOP-only, or once in a while a number that counts as LOOP-only.
+    pub fn setting(&mut self) -> u32 {
+        match self.below(8) {
+            0..=3 => ANY,
+            4..=6 => LOOP_ONLY,
+            _ => self.pick(&OTHER_SETTINGS),
+        }
+    }
+
     /// A program's text, damaged or not.
-    pub fn text(&mut self) -> Vec<u8> {
-        let mut text = write(&self.sized_program());
+    pub fn text(&mut self, setting: Setting) -> Vec<u8> {
+        let mut text = write(&self.sized_program(setting));
         if self.once_in(3) {
             let times = 1 + self.below(3);
             for _ in 0..times {
@@ -117,8 +130,8 @@ impl Random {
     }
 
     /// A program as a list of numbers, damaged or not.
-    pub fn list(&mut self) -> Vec<u8> {
-        let mut list = list(&self.sized_program());
+    pub fn list(&mut self, setting: Setting) -> Vec<u8> {
+        let mut list = list(&self.sized_program(setting));
         if self.once_in(3) {
             self.damage(&mut list, &[0, 1, 2, 3, 4, 5, 6, 7, 8, 31, 32, 255]);
         }
@@ -261,7 +274,7 @@ impl Random {
     /// The word of a program, and a machine that starts it, mostly with 1s only in its registers.
     pub fn translated(&mut self) -> (Vec<u8>, Machine) {
         let lines = self.below(14);
-        let commands = self.program(lines, 3);
+        let commands = self.program(Setting::Any, lines, 3);
         let capacity = self.capacity();
         let marks = usize::from(self.once_in(5));
         let contents: Vec<_> = (0..variables(&commands)).map(|_| self.symbols(capacity, marks)).collect();

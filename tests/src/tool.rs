@@ -1,7 +1,7 @@
-//! What the run tool and the label tool print.
+//! What the run tool and the label tool print. Both are outside the LOOP-only setting.
 
 use crate::machine::{Machine, REGISTERS};
-use crate::program::{read, variables};
+use crate::program::{read, variables, Setting};
 use crate::source::{run, State, CAPACITY};
 use crate::translation::translate;
 use crate::word::spell;
@@ -12,7 +12,7 @@ pub const WORD_BUDGET: u32 = 1_000_000;
 pub const WORD_BYTES: usize = 65_536;
 
 fn runs(text: &[u8], sheet: &[u8]) -> Result<String, Refusal> {
-    let commands = read(text)?;
+    let commands = read(Setting::Any, text)?;
     let k = variables(&commands);
     let rows = sheet::read(sheet, k, u64::from(CAPACITY))?;
     let word = translate(&commands);
@@ -42,7 +42,7 @@ pub fn report(text: &[u8], sheet: &[u8]) -> String {
 
 /// The word of a program's text, on a line.
 pub fn label(text: &[u8]) -> String {
-    printed(read(text).map(|commands| String::from_utf8_lossy(&spell(&translate(&commands))).into_owned() + "\n"))
+    printed(read(Setting::Any, text).map(|commands| String::from_utf8_lossy(&spell(&translate(&commands))).into_owned() + "\n"))
 }
 
 /// The refusal that a printed text tells of.

@@ -1,7 +1,7 @@
 //! Document 01's bench examples, and the run tool's budgets, on the twin.
 
 use twin::machine::Machine;
-use twin::program::{read, variables};
+use twin::program::{read, variables, Setting};
 use twin::source::{run, State};
 use twin::translation::translate;
 use twin::word::{self, spell};
@@ -17,7 +17,7 @@ fn values(start: &[u32]) -> [u32; 32] {
 type Both = (String, (End, u32), (End, u32, i32), String);
 
 fn both(text: &str, capacity: u32, start: &[u32]) -> Both {
-    let commands = read(text.as_bytes()).expect("an accepted program");
+    let commands = read(Setting::Any, text.as_bytes()).expect("an accepted program");
     let table = translate(&commands);
     let mut state = State::fresh(capacity, values(start));
     let source = run(&commands, &mut state, 1000);
@@ -64,7 +64,7 @@ fn words() {
 
 #[test]
 fn texts() {
-    let answer = |text: &str| read(text.as_bytes()).map(|_| ());
+    let answer = |text: &str| read(Setting::Any, text.as_bytes()).map(|_| ());
     let refused = |number, place| Err(Refusal { number, place });
     assert_eq!(answer("X31 <- 0\n"), Ok(()));
     assert_eq!(answer("X32 <- 0\n"), refused(5, 1));

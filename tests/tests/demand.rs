@@ -1,22 +1,23 @@
-//! Demand 3 and the claim on full, tried: programs by chance, their words run by the twin, ends, steps, registers and charges compared.
-//! Where the library is linked the words are those that it translates, else the twin's own.
+//! Demand 3, the claim on full and that of the LOOP-only lesson, tried: programs by chance, their words run by the twin, ends, steps,
+//! registers and charges compared. Where the library is linked the words are those that it translates, else the twin's own.
 
+use twin::cases::{ANY, LOOP_ONLY};
 use twin::machine::Machine;
-use twin::program::{variables, Command};
+use twin::program::{read, variables, write, Command, Kind, Setting};
 use twin::random::Random;
 use twin::source::{run, State};
 use twin::word::Instruction;
 use twin::End;
 
 #[cfg(not(feature = "library"))]
-fn translated(commands: &[Command]) -> Vec<Instruction> {
+fn translated(_setting: u32, commands: &[Command]) -> Vec<Instruction> {
     twin::translation::translate(commands)
 }
 
 #[cfg(feature = "library")]
-fn translated(commands: &[Command]) -> Vec<Instruction> {
+fn translated(setting: u32, commands: &[Command]) -> Vec<Instruction> {
     let mut word = vec![0; 600_000];
-    let twin::Answer::Done { low, .. } = twin::library::translate(&twin::program::write(commands), &mut word) else {
+    let twin::Answer::Done { low, .. } = twin::library::translate(setting, &write(commands), &mut word) else {
         panic!("{commands:?} is refused")
     };
     twin::word::read(&word[..low as usize]).expect("a word")
@@ -28,7 +29,7 @@ fn source_and_word() {
     let (mut halted, mut full) = (0, 0);
     for _ in 0..4000 {
         let lines = random.below(12);
-        let commands = random.program(lines, 3);
+        let commands = random.program(Setting::Any, lines, 3);
         let k = variables(&commands);
         let capacity = 1 + random.below(9);
         let mut values = [0; 32];
@@ -37,7 +38,7 @@ fn source_and_word() {
         let mut state = State::fresh(capacity as u32, values);
         let mut machine = Machine::fresh(64, capacity, &ones);
         let source = run(&commands, &mut state, 3_000);
-        let (end, steps) = machine.run(&translated(&commands), 300_000);
+        let (end, steps) = machine.run(&translated(ANY, &commands), 300_000);
         assert_ne!(end, End::Strayed);
         if source.end == End::Spent || end == End::Spent {
             continue;
@@ -56,4 +57,34 @@ fn source_and_word() {
         }
     }
     assert!(halted > 1000 && full > 100, "{halted} halted, {full} full");
+}
+
+/// What is accepted under the LOOP-only setting halts, and so does its word. Values are as high as the twin's machine can hold; a few
+/// programs grow past that, or past the budget, and cannot be tried.
+#[test]
+fn loop_programs_halt() {
+    const MOST: u32 = u16::MAX as u32;
+    let mut random = Random::new(20);
+    let (mut with_loops, mut outgrown) = (0, 0);
+    for _ in 0..3000 {
+        let lines = random.below(13);
+        let commands = random.program(Setting::LoopOnly, lines, 3);
+        assert_eq!(read(Setting::LoopOnly, &write(&commands)).as_ref(), Ok(&commands));
+        let k = variables(&commands);
+        let mut values = [0; 32];
+        values[..k].fill_with(|| random.below(3) as u32);
+        let ones: Vec<_> = values[..k].iter().map(|&v| vec![b'1'; v as usize]).collect();
+        let mut state = State::fresh(MOST, values);
+        let mut machine = Machine::fresh(k + 17, MOST as usize, &ones);
+        let source = run(&commands, &mut state, 1_000_000);
+        if source.end != End::Halted {
+            assert!(state.values.iter().chain(&state.passes).any(|&n| n > 100), "{commands:?} from {values:?} goes on, and does not grow");
+            outgrown += 1;
+            continue;
+        }
+        let (end, steps) = machine.run(&translated(LOOP_ONLY, &commands), 100_000_000);
+        assert_eq!((end, u64::from(steps)), (End::Halted, 1 + source.charges), "{commands:?} from {values:?}");
+        with_loops += usize::from(commands.iter().any(|c| matches!(c, Command::Open(Kind::Loop, _))));
+    }
+    assert!(with_loops > 1500 && outgrown < 15, "{with_loops} with loops, {outgrown} not tried");
 }

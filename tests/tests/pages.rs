@@ -15,7 +15,7 @@ fn page(name: &str) -> String {
 
 fn examples() -> Vec<Example> {
     let mut examples = page::examples(&page("docs/REFUSALS.md"));
-    for rule in 1..=19 {
+    for rule in 1..=20 {
         assert!(examples.iter().any(|e| e.answer.number == rule), "the page has an example of {rule}");
     }
     examples.extend(page::examples(&page("docs/STUDENTS.md")));

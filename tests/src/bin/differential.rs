@@ -6,10 +6,10 @@ use std::collections::BTreeMap;
 use std::env;
 use std::process::exit;
 use std::time::{Duration, Instant};
-use twin::cases::{Case, Program};
+use twin::cases::{setting_of, Case, Program, ANY, LOOP_ONLY};
 use twin::library::RunTool;
 use twin::machine::Machine;
-use twin::program::{list, read, variables, write};
+use twin::program::{list, read, variables, write, Setting};
 use twin::random::Random;
 use twin::translation::translate;
 use twin::word::{self, spell, Instruction};
@@ -20,12 +20,12 @@ const LONGEST: u32 = 20_000;
 
 /// The answers of each call, every one of which must come `LEAST` times.
 const ANSWERS: [(&str, &str); 11] = [
-    ("read a text", "done 1 2 3 4 5 6 7 8 19"),
-    ("write a list", "done 3 4 5 6 7 8 19"),
-    ("translate a text", "done 1 2 3 4 5 6 7 8 19"),
-    ("translate a list", "done 3 4 5 6 7 8 19"),
-    ("run a text", "halted spent full 1 2 3 4 5 6 7 8 9"),
-    ("run a list", "halted spent full 3 4 5 6 7 8 9"),
+    ("read a text", "done 1 2 3 4 5 20 6 7 8 19"),
+    ("write a list", "done 3 4 5 20 6 7 8 19"),
+    ("translate a text", "done 1 2 3 4 5 20 6 7 8 19"),
+    ("translate a list", "done 3 4 5 20 6 7 8 19"),
+    ("run a text", "halted spent full 1 2 3 4 5 20 6 7 8 9"),
+    ("run a list", "halted spent full 3 4 5 20 6 7 8 9"),
     ("read a word", "done 11 12 13 14 19"),
     ("write a word", "done 11 13 14 19"),
     ("run a word", "halted strayed spent full 10 11 12 13 14 15"),
@@ -89,18 +89,45 @@ impl Tally {
     }
 }
 
-/// Each call that is given a program, with outputs of its result's length, of one less, and of the most.
-fn program_edges(tally: &mut Tally, program: &Program) {
-    let converted = program.converted().map_or(9, |c| c.len());
-    let symbols = program.read().map_or(9, |c| spell(&translate(&c)).len());
-    for lent in [converted.saturating_sub(1), converted, 16_384] {
-        tally.hold(Case::Convert { program: program.clone(), lent });
+/// Each call that is given a program, with outputs of the length that its result has outside the LOOP-only setting, of one less, and of
+/// the most that `longest` allows; and with a good state and a bad one.
+fn program_edges(tally: &mut Tally, setting: u32, program: &Program, longest: usize) {
+    let converted = program.converted(Setting::Any).map_or(9, |c| c.len());
+    let symbols = program.read(Setting::Any).map_or(9, |c| spell(&translate(&c)).len());
+    for lent in [converted.saturating_sub(1), converted, longest.min(16_384)] {
+        tally.hold(Case::Convert { setting, program: program.clone(), lent });
     }
-    for lent in [symbols - 1, symbols, 600_000] {
-        tally.hold(Case::Translate { program: program.clone(), lent });
+    for lent in [symbols - 1, symbols, longest] {
+        tally.hold(Case::Translate { setting, program: program.clone(), lent });
     }
-    let state = source::State::fresh(5, [0; 32]).numbers().to_vec();
-    tally.hold(Case::RunSource { program: program.clone(), state, budget: 100 });
+    for capacity in [5, 0] {
+        let state = source::State::fresh(capacity, [0; 32]).numbers().to_vec();
+        tally.hold(Case::RunSource { setting, program: program.clone(), state, budget: 100 });
+    }
+}
+
+/// Programs at the limits of rule 20 under each number of a setting, as texts and as lists.
+fn setting_edges(tally: &mut Tally) {
+    for (text, list) in edges::beside_20() {
+        for program in [Program::Text(text), Program::List(list)] {
+            for setting in [ANY, LOOP_ONLY, u32::MAX] {
+                program_edges(tally, setting, &program, 9_999);
+            }
+        }
+    }
+    for text in edges::long_whiles() {
+        for setting in [ANY, LOOP_ONLY] {
+            program_edges(tally, setting, &Program::Text(text.clone()), 99_999);
+        }
+    }
+    for (text, _) in edges::SAMPLES {
+        let list = Program::Text(text.into()).converted(Setting::Any).expect("a sample is accepted");
+        for program in [Program::Text(text.into()), Program::List(list)] {
+            for setting in edges::OTHER_SETTINGS {
+                program_edges(tally, setting, &program, 9_999);
+            }
+        }
+    }
 }
 
 /// Kinds and operands of a table.
@@ -118,10 +145,12 @@ fn run_both(tally: &mut Tally, table: &[Instruction], machine: &Machine, budget:
 /// A sample program from every state at a limit; its source and its word with every budget up to past the end, and every count of steps
 /// near the largest.
 fn sample_edges(tally: &mut Tally, text: &[u8], start: &[u32]) {
-    let commands = read(text).expect("a sample is accepted");
+    let commands = read(Setting::Any, text).expect("a sample is accepted");
     for state in edges::states(&commands, start) {
-        tally.hold(Case::RunSource { program: Program::Text(text.into()), state: state.clone(), budget: 9 });
-        tally.hold(Case::RunSource { program: Program::List(list(&commands)), state, budget: 9 });
+        for setting in [ANY, LOOP_ONLY] {
+            tally.hold(Case::RunSource { setting, program: Program::Text(text.into()), state: state.clone(), budget: 9 });
+            tally.hold(Case::RunSource { setting, program: Program::List(list(&commands)), state: state.clone(), budget: 9 });
+        }
     }
     let (state, machine) = edges::fresh(&commands, start);
     let table = translate(&commands);
@@ -130,7 +159,7 @@ fn sample_edges(tally: &mut Tally, text: &[u8], start: &[u32]) {
     for n in 0..=ends + 2 {
         for (steps, budget) in [(0, n), (u32::MAX - n, 200), (u32::MAX - n, ends), (u32::MAX - ends, n)] {
             let state = source::State { steps, ..state.clone() }.numbers().to_vec();
-            tally.hold(Case::RunSource { program: Program::Text(text.into()), state, budget });
+            tally.hold(Case::RunSource { setting: ANY, program: Program::Text(text.into()), state, budget });
         }
     }
     for n in 0..=word_ends + 2 {
@@ -149,12 +178,17 @@ fn sample_edges(tally: &mut Tally, text: &[u8], start: &[u32]) {
 /// All cases at the limits.
 fn at_limits(tally: &mut Tally) {
     for text in edges::texts() {
-        program_edges(tally, &Program::Text(text.clone()));
+        for setting in [ANY, LOOP_ONLY] {
+            program_edges(tally, setting, &Program::Text(text.clone()), 600_000);
+        }
         tally.hold(Case::Report { text, sheet: b"\n\n".to_vec() });
     }
     for list in edges::lists() {
-        program_edges(tally, &Program::List(list));
+        for setting in [ANY, LOOP_ONLY] {
+            program_edges(tally, setting, &Program::List(list.clone()), 600_000);
+        }
     }
+    setting_edges(tally);
     for (text, start) in edges::SAMPLES {
         sample_edges(tally, text, start);
     }
@@ -210,8 +244,8 @@ fn lent(random: &mut Random, length: usize) -> usize {
 }
 
 /// A run of a program from a state by chance, or from the middle of a run, with a budget and a count of steps around its end.
-fn source_case(random: &mut Random, program: Program) -> Case {
-    let commands = program.read().unwrap_or_default();
+fn source_case(random: &mut Random, setting: u32, program: Program) -> Case {
+    let commands = program.read(setting_of(setting)).unwrap_or_default();
     let mut state = random.state(&commands);
     let mut budget = random.below(3000) as u32;
     if source::check(&commands, &state).is_ok() {
@@ -225,7 +259,7 @@ fn source_case(random: &mut Random, program: Program) -> Case {
         }
         state.steps = random.count(left);
     }
-    Case::RunSource { program, state: state.numbers().to_vec(), budget }
+    Case::RunSource { setting, program, state: state.numbers().to_vec(), budget }
 }
 
 /// The same for a word: the machine then, and a budget.
@@ -281,15 +315,22 @@ fn table_case(random: &mut Random) -> Case {
     Case::RunTable { kinds, operands, machine, budget }
 }
 
+/// One case of every call that is given a program, as text and as list. Under the LOOP-only setting most programs have no WHILE.
+fn program_cases(tally: &mut Tally, random: &mut Random) {
+    let setting = random.setting();
+    let written = if random.once_in(3) { Setting::Any } else { setting_of(setting) };
+    for program in [Program::Text(random.text(written)), Program::List(random.list(written))] {
+        let length = program.converted(Setting::Any).map_or(9, |c| c.len());
+        tally.hold(Case::Convert { setting, program: program.clone(), lent: lent(random, length) });
+        let length = program.read(Setting::Any).map_or(9, |c| spell(&translate(&c)).len());
+        tally.hold(Case::Translate { setting, program: program.clone(), lent: lent(random, length) });
+        tally.hold(source_case(random, setting, program));
+    }
+}
+
 /// One case of every kind but the run tool's.
 fn by_chance(tally: &mut Tally, random: &mut Random) {
-    for program in [Program::Text(random.text()), Program::List(random.list())] {
-        let length = program.converted().map_or(9, |c| c.len());
-        tally.hold(Case::Convert { program: program.clone(), lent: lent(random, length) });
-        let length = program.read().map_or(9, |c| spell(&translate(&c)).len());
-        tally.hold(Case::Translate { program: program.clone(), lent: lent(random, length) });
-        tally.hold(source_case(random, program));
-    }
+    program_cases(tally, random);
     let machine = random.machine();
     let named = machine.registers + usize::from(random.once_in(6));
     let word = random.word(named);
@@ -304,9 +345,9 @@ fn by_chance(tally: &mut Tally, random: &mut Random) {
 
 fn report_case(random: &mut Random) -> Case {
     let lines = random.below(9);
-    let small = write(&random.program(lines, 3));
-    let text = if random.once_in(4) { random.text() } else { small };
-    let sheet = random.sheet(read(&text).map_or(2, |c| variables(&c)));
+    let small = write(&random.program(Setting::Any, lines, 3));
+    let text = if random.once_in(4) { random.text(Setting::Any) } else { small };
+    let sheet = random.sheet(read(Setting::Any, &text).map_or(2, |c| variables(&c)));
     Case::Report { text, sheet }
 }
 

@@ -6,10 +6,10 @@ use std::path::PathBuf;
 use std::process::{Command as Process, Stdio};
 use std::rc::Rc;
 use std::{env, fs};
-use twin::cases::Program;
+use twin::cases::{Program, ANY};
 use twin::library::{self, Code};
 use twin::machine::Machine;
-use twin::program::{self, read, read_list, Command, Kind};
+use twin::program::{self, read, read_list, Command, Kind, Setting};
 use twin::source::{check, run, State};
 use twin::translation::translate;
 use twin::word::{self, spell, Instruction};
@@ -31,11 +31,11 @@ pub fn as_text(text: &[u8]) -> Program {
 }
 
 pub fn as_list(text: &[u8]) -> Program {
-    Program::List(program::list(&read(text).expect("an accepted program")))
+    Program::List(program::list(&read(Setting::Any, text).expect("an accepted program")))
 }
 
 pub fn word_of(text: &[u8]) -> Vec<u8> {
-    spell(&translate(&read(text).expect("an accepted program")))
+    spell(&translate(&read(Setting::Any, text).expect("an accepted program")))
 }
 
 /// As many copies in 16 loops as make about so many symbols.
@@ -63,26 +63,26 @@ pub fn reading(name: &str, size: usize, text: &[u8]) -> Work {
         name,
         size,
         move || {
-            black_box(library::read_program(black_box(&text), &mut list));
+            black_box(library::read_program(ANY, black_box(&text), &mut list));
         },
         move || {
-            black_box(read(black_box(&again)).map(|c| program::list(&c))).ok();
+            black_box(read(Setting::Any, black_box(&again)).map(|c| program::list(&c))).ok();
         },
     )
 }
 
 pub fn writing(name: &str, size: usize, text: &[u8]) -> Work {
-    let list = program::list(&read(text).expect("an accepted program"));
+    let list = program::list(&read(Setting::Any, text).expect("an accepted program"));
     let again = list.clone();
     let mut written = vec![0; 16_384];
     Work::new(
         name,
         size,
         move || {
-            black_box(library::write_program(black_box(&list), &mut written));
+            black_box(library::write_program(ANY, black_box(&list), &mut written));
         },
         move || {
-            black_box(read_list(black_box(&again)).map(|c| program::write(&c))).ok();
+            black_box(read_list(Setting::Any, black_box(&again)).map(|c| program::write(&c))).ok();
         },
     )
 }
@@ -95,12 +95,12 @@ pub fn translating(name: &str, size: usize, program: Program) -> Work {
         size,
         move || {
             black_box(match black_box(&program) {
-                Program::Text(text) => library::translate(text, &mut word),
-                Program::List(list) => library::translate_list(list, &mut word),
+                Program::Text(text) => library::translate(ANY, text, &mut word),
+                Program::List(list) => library::translate_list(ANY, list, &mut word),
             });
         },
         move || {
-            black_box(black_box(&again).read().map(|c| spell(&translate(&c)))).ok();
+            black_box(black_box(&again).read(Setting::Any).map(|c| spell(&translate(&c)))).ok();
         },
     )
 }
@@ -116,13 +116,13 @@ pub fn running_source(name: &str, program: Program, values: &[u32]) -> Work {
         move || {
             let mut state = numbers;
             black_box(match black_box(&program) {
-                Program::Text(text) => library::run_source(text, &mut state, 100_000),
-                Program::List(list) => library::run_source_list(list, &mut state, 100_000),
+                Program::Text(text) => library::run_source(ANY, text, &mut state, 100_000),
+                Program::List(list) => library::run_source_list(ANY, list, &mut state, 100_000),
             });
         },
         move || {
             let mut state = fresh.clone();
-            let commands = black_box(&again).read().expect("an accepted program");
+            let commands = black_box(&again).read(Setting::Any).expect("an accepted program");
             check(&commands, &state).expect("a good state");
             black_box(run(&commands, &mut state, 100_000));
         },
