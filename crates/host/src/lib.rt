@@ -51,16 +51,28 @@ pub extern "C" fn mudzkvopi_translate_list(setting: u32, list: &[u8], word: &mut
 
 // A program handed in as text, run from a state of 51 numbers: rules 1 to 8 under a setting, then 9.
 #[no_mangle]
-pub extern "C" fn mudzkvopi_run_source(setting: u32, text: &[u8], state: &mut [u32], budget: u32) -> u64
-    ensures { λ r. ⌜ RunsSource (read-text-under (setting-of setting) (now (text .entry))) (now (state .entry)) budget r (now (state .exit)) ⌝ }
+pub extern "C" fn mudzkvopi_run_source(
+    setting: u32,
+    text: &[u8],
+    state: &mut [u32],
+    budget: u32,
+) -> u64
+    ensures { λ r. ⌜ RunsSource (read-text-under (setting-of setting) (now (text .entry))) (now (state .entry)) budget
+        r (now (state .exit)) ⌝ }
 {
     packing::source_ended(states::run_text(packing::setting(setting), text, &mut *state, budget))
 }
 
 // A program handed in as a list, run so: rules 3 to 8 under a setting, then 9.
 #[no_mangle]
-pub extern "C" fn mudzkvopi_run_source_list(setting: u32, list: &[u8], state: &mut [u32], budget: u32) -> u64
-    ensures { λ r. ⌜ RunsSource (read-list-under (setting-of setting) (now (list .entry))) (now (state .entry)) budget r (now (state .exit)) ⌝ }
+pub extern "C" fn mudzkvopi_run_source_list(
+    setting: u32,
+    list: &[u8],
+    state: &mut [u32],
+    budget: u32,
+) -> u64
+    ensures { λ r. ⌜ RunsSource (read-list-under (setting-of setting) (now (list .entry))) (now (state .entry)) budget
+        r (now (state .exit)) ⌝ }
 {
     packing::source_ended(states::run_list(packing::setting(setting), list, &mut *state, budget))
 }

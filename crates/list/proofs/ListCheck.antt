@@ -60,7 +60,8 @@ module _ (σ : Setting) (l : List ℕ) (short : length l ≤ 1536) where
   unfolding read-list-under commands
   refused-by r e = rw (few, e)
 
-  accepted-as : (n K : ℕ) → lines-fault-under σ 1 [] (listed l) ≡ none → n ≡ length (present (listed l)) → K ≡ variables (present (listed l))
+  accepted-as : (n K : ℕ) → lines-fault-under σ 1 [] (listed l) ≡ none → n ≡ length (present (listed l))
+      → K ≡ variables (present (listed l))
       → Accepted (record { lines = n; variables = K }) ≡ checked (read-list-under σ l)
   unfolding read-list-under commands
   accepted-as n K e f g = rw (few, e, f, g)
@@ -138,7 +139,8 @@ module _ (σ : Setting) (l : List ℕ) (n K d : ℕ) (os : List Opening) (h : So
       go (k ∷ i ∷ []) a b = refl
       go (k ∷ i ∷ j ∷ u) a b = absurd (omega arith)
 
-  pub whole : length l ≤ 3 * n → length l ≤ 1536 → at-end (record { lines = n; variables = K }) (innermost d os) ≡ checked (read-list-under σ l)
+  pub whole : length l ≤ 3 * n → length l ≤ 1536
+      → at-end (record { lines = n; variables = K }) (innermost d os) ≡ checked (read-list-under σ l)
   unfolding lines-fault-under listed
   whole all short = go (innermost d os) (sym (h .rest) ∙ rw nothing-left)
     where

@@ -64,8 +64,8 @@ fn ended(count: usize, last: Opening, program: Program) -> Checked
     }
 }
 
-// Rules 3 to 8 under a setting, the commands of a list taken as lines. Every command is put where an opening would stand; it counts where it
-// is one.
+// Rules 3 to 8 under a setting, the commands of a list taken as lines. Every command is put where an opening would stand; it counts where
+// it is one.
 pub fn check_list(setting: Setting, list: &[u8]) -> Checked
     ensures { λ r. ⌜ r ≡ checked (read-list-under setting (now (list .entry))) ⌝ }
 {

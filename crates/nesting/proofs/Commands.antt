@@ -10,7 +10,7 @@ use native.Mathlib.Omega.{arith}
 use borrow.Author.Tests.{ltb-true, ltb-false, eqb-true, lt-ltb, lt-leb, le-leb, ne-eqb}
 use lib.Dec.{eqb, ltb, leb}
 use lib.ListN.{length, replicate, length-replicate}
-use Rattle.theory.specs.Basics.{or-else, given}
+use Rattle.theory.specs.Basics.{given}
 use Rattle.theory.specs.ProgramText as P
 use Rattle.theory.specs.ProgramText.{Plain, clear, increment, copy, loop, while, Command, plain, opens, closes, indices, above}
 use Rattle.theory.specs.ProgramText.{command-of, open-next}
@@ -59,7 +59,8 @@ one-index i j h = omega (arith, eqb-true j 0 h)
 pub known : (k i j : ℕ) → is-known k j ≡ true → Known k i j
 unfolding command-of
 known zero i j h = absurd (false≢true h)
-known (suc zero) i j h = record { command = plain (clear i); is = rw h; top = one-index i j h; banned = λ n. refl; other = λ _ _. (clear i, refl) }
+known (suc zero) i j h =
+    record { command = plain (clear i); is = rw h; top = one-index i j h; banned = λ n. refl; other = λ _ _. (clear i, refl) }
 known (suc (suc zero)) i j h =
     record { command = plain (increment i); is = rw h; top = one-index i j h; banned = λ n. refl; other = λ _ _. (increment i, refl) }
 known (suc (suc (suc zero))) i j h =

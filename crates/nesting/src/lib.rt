@@ -121,7 +121,15 @@ fn closed(count: usize, last: Opening, line: usize, kind: u8, index: u8) -> Judg
 }
 
 // A command at a line, where so many pairs are open and the innermost is `last`: rules 4 and 5, then 20, then 6 and 7.
-pub fn judge(setting: Setting, count: usize, last: Opening, line: usize, kind: u8, index: u8, source: u8) -> Judged
+pub fn judge(
+    setting: Setting,
+    count: usize,
+    last: Opening,
+    line: usize,
+    kind: u8,
+    index: u8,
+    source: u8,
+) -> Judged
     ensures { λ r. ⌜ r ≡ judged setting line (pairs count last) (command-of kind index source) ⌝ }
 {
     if !is_command(kind, source) {

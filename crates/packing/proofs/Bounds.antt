@@ -98,7 +98,8 @@ unfolding lines-fault-under
 lines-low σ n [] [] h l = low-none
 lines-low σ n (o ∷ os) [] h l = low-at 8 (o .line) (omega arith) (l .0)
 lines-low σ n [] (c ∷ p) h l =
-    low-or _ _ (line-low σ n [] c (omega arith)) (λ e. lines-low σ (suc n) (open-past n [] c) p (omega arith) (open-low n [] c (omega arith) l))
+    low-or _ _ (line-low σ n [] c (omega arith))
+    (λ e. lines-low σ (suc n) (open-past n [] c) p (omega arith) (open-low n [] c (omega arith) l))
 lines-low σ n (o ∷ os) (c ∷ p) h l =
     low-or _ _ (line-low σ n (o ∷ os) c (omega arith))
     (λ e. lines-low σ (suc n) (open-past n (o ∷ os) c) p (omega arith) (open-low n (o ∷ os) c (omega arith) l))

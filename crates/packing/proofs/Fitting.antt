@@ -18,7 +18,8 @@ use Rattle.theory.specs.Machines.{SourceState, Memory, Position, is-memory, run
 use Rattle.theory.specs.TurnedDown.{Answer, refused, unless, answer, after, mapped, lend, is-source}
 use Rattle.theory.specs.TurnedDown.{rule-9, rule-10, rule-15, rule-19}
 use Rattle.theory.specs.TurnedDown.{text-fault-under, text-lines, program-fault-under, word-fault, word-entries, table-fault, instructions}
-use Rattle.theory.specs.TurnedDown.{next-byte, next-entry, read-text-under, read-list-under, read-word, read-table, read-word-for, read-table-for}
+use Rattle.theory.specs.TurnedDown.{next-byte, next-entry, read-text-under, read-list-under, read-word, read-table, read-word-for}
+use Rattle.theory.specs.TurnedDown.{read-table-for}
 use Rattle.theory.specs.TurnedDown.{read-program-into, write-program-into, translate-into, run-from}
 use Rattle.theory.specs.TurnedDown.{read-word-into, write-word-into, run-on}
 use Rattle.theory.specs.Basics.{or-else, present}
@@ -95,7 +96,8 @@ unfolding read-program-into read-text-under
 read-program-fits σ list text =
     let p = present (text-lines text) in
     fit-after program-fields (text-fault-under σ text) p (λ q. answer (rule-19 list (list-of q)) q) (text-low σ text)
-    (λ e. fit-answer program-fields (rule-19 list (list-of p)) p (no-room-low list (list-of p)) (λ f. program-fit p (text-program σ text e)))
+    (λ e. fit-answer program-fields (rule-19 list (list-of p)) p (no-room-low list (list-of p))
+    (λ f. program-fit p (text-program σ text e)))
 
 write-program-fits : (σ : Setting) (text list : Bytes) → Fit (fields count-fields (write-program-into σ text list))
 unfolding write-program-into read-list-under commands
@@ -180,10 +182,10 @@ answers-fit =
       write-program = write-program-fits;
       translate = translate-fits;
       translate-list = translate-list-fits;
-      runs-text = λ σ s budget b text. fit-after end-fields (text-fault-under σ text) (present (text-lines text)) (run-from s budget) (text-low σ text)
-          (λ e. from-fits s budget b (present (text-lines text)));
-      runs-list = λ σ s budget b list. fit-after end-fields (program-fault-under σ (listed list)) (present (listed list)) (run-from s budget)
-          (program-low σ (listed list)) (λ e. from-fits s budget b (present (listed list)));
+      runs-text = λ σ s budget b text. fit-after end-fields (text-fault-under σ text) (present (text-lines text)) (run-from s budget)
+          (text-low σ text) (λ e. from-fits s budget b (present (text-lines text)));
+      runs-list = λ σ s budget b list. fit-after end-fields (program-fault-under σ (listed list)) (present (listed list))
+          (run-from s budget) (program-low σ (listed list)) (λ e. from-fits s budget b (present (listed list)));
       read-word = read-word-fits;
       write-word = write-word-fits;
       runs-word = λ m p budget b word. run-fits m p budget b (or-else (word-fault word) (rule-15 next-byte (m .count) (word-entries word)))

@@ -58,7 +58,8 @@ pub record ReadsBack : Type 1 where
   pub list : {A : Type 0} (a : Answer (List A)) → Fit (fields count-fields a) → unpack (packed count a) ≡ fields count-fields a
   pub run : {S : Type 0} (a : Answer (Outcome S)) → Fit (fields end-fields a) → unpack (packed ending a) ≡ fields end-fields a
 
--- Every answer of an entry fits: of programs handed in as text or as list under a setting, of words and tables, and of runs whose budget has 32 bits
+-- Every answer of an entry fits: of programs handed in as text or as list under a setting, of words and tables, and of runs whose budget
+-- has 32 bits
 pub record AnswersFit : Type 0 where
   pub read-program : (σ : Setting) (list text : Bytes) → Fit (fields program-fields (read-program-into σ list text))
   pub write-program : (σ : Setting) (text list : Bytes) → Fit (fields count-fields (write-program-into σ text list))

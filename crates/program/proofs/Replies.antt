@@ -84,15 +84,18 @@ module _ (σ : Setting) (t : Bytes) (lent numbers : List ℕ) (lines : ℕ) (d :
           abbrev read : (p : List Command) × (read-list-under σ part ≡ done p) × (q ≡ program-of p)
           read = checked-accepted (read-list-under σ part) k f
 
+          numbers-are : list-of (read .0) ≡ part
+          numbers-are = lists-round-trip .1 part (read .0) (read-list-outside σ part (read .0) (read .1))
+
           pub read-no-room : length lent < 3 * lines → Reads σ t lent (C.Refused (record { number = 19; place = 0 })) lent
           read-no-room l =
-              reads-no-room σ t lent part (read .0) (same-read ∙ read .1) (lists-round-trip .1 part (read .0) (read-list-outside σ part (read .0) (read .1)))
+              reads-no-room σ t lent part (read .0) (same-read ∙ read .1) numbers-are
               (omega (arith, part-length))
 
           pub read-all : {out : List ℕ} {j : ℕ} → 3 * lines ≤ length lent → Put part 0 lent out j → Reads σ t lent (C.Accepted q) out
           read-all l w =
               let room : length part ≤ length lent = omega (arith, part-length) in
-              reads-done σ t lent part (read .0) (same-read ∙ read .1) (lists-round-trip .1 part (read .0) (read-list-outside σ part (read .0) (read .1))) room q _ (read .2)
+              reads-done σ t lent part (read .0) (same-read ∙ read .1) numbers-are room q _ (read .2)
               (w .wrote ∙ sets-front lent part room)
 
 -- What `write` promises

@@ -75,7 +75,8 @@ pub fn read(setting: Setting, text: &[u8], list: &mut [u8]) -> Checked
 // A list written into a lent text: rules 3 to 8 under a setting, then 19.
 pub fn write(setting: Setting, list: &[u8], text: &mut [u8]) -> Written
     ensures { λ r. ⌜ r ≡ written (write-program-into setting (now (text .entry)) (now (list .entry))) ⌝ }
-    ensures { λ _. ⌜ now (text .exit) ≡ lent-after (now (text .entry)) (write-program-into setting (now (text .entry)) (now (list .entry))) ⌝ }
+    ensures { λ _. ⌜ now (text .exit)
+        ≡ lent-after (now (text .entry)) (write-program-into setting (now (text .entry)) (now (list .entry))) ⌝ }
 {
     match check_list(setting, list) {
         Checked::Refused(r) => Written::Refused(r),

@@ -7,9 +7,9 @@ use native.Mathlib.Omega.{arith}
 use borrow.Author.Tests.{le-leb}
 use lib.ListN.{length, take, drop}
 use lib.Seq.{take-at}
-use Rattle.theory.specs.TurnedDown.{read-program-into}
 use Rattle.theory.specs.ProgramText.{Command, variables, list-of, commands}
-use Rattle.theory.specs.TurnedDown.{Answer, done, refused, answer, after, mapped, read-text-under, read-list, read-list-under, rule-19, lent-after}
+use Rattle.theory.specs.TurnedDown.{Answer, done, refused, answer, after, mapped, rule-19, lent-after, read-program-into}
+use Rattle.theory.specs.TurnedDown.{read-text-under, read-list, read-list-under}
 use Rattle.theory.specs.Claims.{Accepted}
 use Rattle.theory.specs.declared.Refusal.{Refusal}
 use Rattle.theory.specs.declared.Setting.{Setting}

@@ -6,11 +6,11 @@ use native.Mathlib.Omega.{arith}
 use lib.ListN.{length, take, drop}
 use lib.Seq.{take-at}
 use borrow.Author.Tests.{le-leb, lt-leb}
-use Rattle.theory.specs.TurnedDown.{translate-into}
 use Rattle.theory.specs.Text.{Bytes}
 use Rattle.theory.specs.ProgramText.{Command, list-of, commands}
 use Rattle.theory.specs.Translation.{word-text}
-use Rattle.theory.specs.TurnedDown.{Answer, done, refused, mapped, rule-19, read-text-under, read-list, read-list-under, lent-after, read-program-into}
+use Rattle.theory.specs.TurnedDown.{Answer, done, refused, mapped, rule-19, lent-after, read-program-into, translate-into}
+use Rattle.theory.specs.TurnedDown.{read-text-under, read-list, read-list-under}
 use Rattle.theory.specs.declared.Refusal.{Refusal}
 use Rattle.theory.specs.declared.Setting.{Setting}
 use Rattle.theory.specs.Claims.{Accepted}
@@ -59,13 +59,19 @@ known list p q e f =
       names = rw (same, f);
     }
 
--- A list that passes a check under a setting, and its part in a translation outside it
+-- A list that is accepted under a setting: it is read so outside it too
 module _ (σ : Setting) (list : List ℕ) {c : Checked} (e : c ≡ P.checked (read-list-under σ list)) {q : Program} (f : c ≡ C.Accepted q) where
+  abbrev read : (p : List Command) × (read-list-under σ list ≡ done p) × (q ≡ P.program-of p)
+  read = checked-accepted (read-list-under σ list) e f
+
+  outside : read-list list ≡ done (read .0)
+  outside = read-list-outside σ list (read .0) (read .1)
+
   pub listed-known : Known list (q .lines) (q .variables)
-  listed-known = let k = checked-accepted (read-list-under σ list) e f in known list (k .0) q (read-list-outside σ list (k .0) (k .1)) (k .2)
+  listed-known = known list (read .0) q outside (read .2)
 
   pub listed-outside : read-list list ≡ read-list-under σ list
-  listed-outside = let k = checked-accepted (read-list-under σ list) e f in read-list-outside σ list (k .0) (k .1) ∙ sym (k .1)
+  listed-outside = outside ∙ sym (read .1)
 
 module _ (σ : Setting) (t : Bytes) (lent : List ℕ) (room : 1536 ≤ length lent) where
   fits : (p : List Command) → read-text-under σ t ≡ done p → length (list-of p) ≤ length lent

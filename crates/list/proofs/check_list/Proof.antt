@@ -88,8 +88,8 @@ returns-2 c =
     let c8 = c3 .before .before .before .before .before in
     let m = c8 .before .loop in
     let args = c8 .before .before .before .before .args in
-    faulty (args .setting) (args .list .now) (m .lines) (m .variables) (m .count) (m .openings) (m .inv .1) (c8 .loop-test .taken) (c3 .judge .ensures)
-    (c .before .r .given .1) (m .inv .0)
+    faulty (args .setting) (args .list .now) (m .lines) (m .variables) (m .count) (m .openings) (m .inv .1) (c8 .loop-test .taken)
+    (c3 .judge .ensures) (c .before .r .given .1) (m .inv .0)
 
 enum-known-open : tie.Need-enum-known-open Inv-loop μ-loop
 enum-known-open c = search needs
@@ -109,7 +109,8 @@ loop-again c =
     let c10 = c5 .before .before .before .before .before in
     let m = c10 .before .loop in
     let args = c10 .before .before .before .before .args in
-    let so-far = onward (args .setting) (args .list .now) (m .lines) (m .variables) (m .count) (m .openings) (m .inv .1) (c10 .loop-test .taken) (c5 .judge .ensures) in
+    let so-far = onward (args .setting) (args .list .now) (m .lines) (m .variables) (m .count) (m .openings) (m .inv .1)
+    (c10 .loop-test .taken) (c5 .judge .ensures) in
     (m .inv .0, so-far (c .before .before .before .«open» .given .1) _ (c .named2 .ensures ∙ rw (c .before .named .ensures)))
 
 mul-if2 : tie.Need-mul-if2 Inv-loop μ-loop

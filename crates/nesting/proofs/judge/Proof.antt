@@ -60,8 +60,8 @@ returns-4 c =
     let a = c7 .before .args in
     let h = sym (c7 .is-command .ensures) ∙ not-false _ (c4 .before .before .if1 .left) in
     c .opened .ensures ∙ of-opening (a .setting) (a .line) (a .count) (a .last) (a .kind) (a .index) (a .source) h
-    (omega (arith, c4 .before .higher .ensures, c4 .if2 .left)) (sym (c .before .before .before .is-banned .ensures) ∙ c .before .before .if3 .left)
-    (c .before .match .keys1)
+    (omega (arith, c4 .before .higher .ensures, c4 .if2 .left))
+    (sym (c .before .before .before .is-banned .ensures) ∙ c .before .before .if3 .left) (c .before .match .keys1)
 
 returns-5 : tie.Need-returns-5
 returns-5 c =
@@ -70,8 +70,8 @@ returns-5 c =
     let a = c7 .before .args in
     let h = sym (c7 .is-command .ensures) ∙ not-false _ (c4 .before .before .if1 .left) in
     c .closed .ensures ∙ of-closing (a .setting) (a .line) (a .count) (a .last) (a .kind) (a .index) (a .source) h
-    (omega (arith, c4 .before .higher .ensures, c4 .if2 .left)) (sym (c .before .before .before .is-banned .ensures) ∙ c .before .before .if3 .left)
-    (c .before .match .keys2)
+    (omega (arith, c4 .before .higher .ensures, c4 .if2 .left))
+    (sym (c .before .before .before .is-banned .ensures) ∙ c .before .before .if3 .left) (c .before .match .keys2)
 
 returns-6 : tie.Need-returns-6
 returns-6 c =

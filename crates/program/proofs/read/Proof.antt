@@ -51,8 +51,8 @@ returns-3 c =
     let a = c10 .args in
     let lines = c5 .read-lines in
     let ended = sym (c .before .before .before .is-ended .ensures) ∙ not-false _ (c .before .before .if2 .left) in
-    rw (c .refused3 .ensures) (read-long (a .setting) (a .text .now) (a .list .now) (lines .last .1 .0) (lines .result) (lines .ensures) (omega arith)
-    ended (c .before .if3 .taken))
+    rw (c .refused3 .ensures)
+    (read-long (a .setting) (a .text .now) (a .list .now) (lines .last .1 .0) (lines .result) (lines .ensures) (omega arith) ended (c .before .if3 .taken))
 
 mul-count : tie.Need-mul-count
 mul-count c = search needs
@@ -110,7 +110,8 @@ slice-aggregate-put-bytes c =
     let a = c17 .args in
     let lines = c12 .read-lines in
     let ended = sym (c10 .is-ended .ensures) ∙ not-false _ (c9 .if2 .left) in
-    sym (part-length (a .setting) (a .text .now) (a .list .now) (lines .last .1 .0) (lines .result) (lines .ensures) (omega arith) ended (c8 .if3 .left))
+    sym (part-length (a .setting) (a .text .now) (a .list .now) (lines .last .1 .0) (lines .result) (lines .ensures) (omega arith) ended
+    (c8 .if3 .left))
 
 put-bytes-requires : tie.Need-put-bytes-requires
 put-bytes-requires c κs = search needs

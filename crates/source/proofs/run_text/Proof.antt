@@ -22,7 +22,8 @@ abbrev buffer : List ℕ
 buffer = replicate 1536 0
 
 -- What `read` said is what the definition says of the text
-said : (c : tie.After-read) → let a = c .before .before .before .args in c .read .result ≡ checked (read-text-under (a .setting) (a .text .now))
+said : (c : tie.After-read) → let a = c .before .before .before .args in
+    c .read .result ≡ checked (read-text-under (a .setting) (a .text .now))
 said c = let a = c .before .before .before .args in c .read .ensures .0 ∙ ap checked (buffer-read (a .setting) buffer (a .text .now) refl)
 
 -- Of an accepted text: its numbers lie within the buffer, and hold the program

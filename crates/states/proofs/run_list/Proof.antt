@@ -24,7 +24,8 @@ returns c =
     let at-state : tie.After-state-of = at-run .before in
     let args = at-state .before .before .before .before .args in
     runs-lent (read-list-under (args .setting) (args .list .now)) (args .state .now) (args .budget) (at-state .state-of .result)
-    (at-run .run-list .result) (at-put .put-state .last .1 .0) (at-state .state-of .ensures) (at-run .run-list .ensures) (at-put .put-state .ensures)
+    (at-run .run-list .result) (at-put .put-state .last .1 .0) (at-state .state-of .ensures) (at-run .run-list .ensures)
+    (at-put .put-state .ensures)
 
 pub run-list-spec : {M : Type 1} → statement M
 run-list-spec =

@@ -24,7 +24,8 @@ returns c =
     let at-state : tie.After-state-of = at-run .before in
     let args = at-state .before .before .before .before .args in
     runs-lent (read-text-under (args .setting) (args .text .now)) (args .state .now) (args .budget) (at-state .state-of .result)
-    (at-run .run-text .result) (at-put .put-state .last .1 .0) (at-state .state-of .ensures) (at-run .run-text .ensures) (at-put .put-state .ensures)
+    (at-run .run-text .result) (at-put .put-state .last .1 .0) (at-state .state-of .ensures) (at-run .run-text .ensures)
+    (at-put .put-state .ensures)
 
 pub run-text-spec : {M : Type 1} → statement M
 run-text-spec =
