@@ -52,7 +52,8 @@ returns-3 c =
     let lines = c5 .read-lines in
     let ended = sym (c .before .before .before .is-ended .ensures) ∙ not-false _ (c .before .before .if2 .left) in
     rw (c .refused3 .ensures)
-    (read-long (a .setting) (a .text .now) (a .list .now) (lines .last .1 .0) (lines .result) (lines .ensures) (omega arith) ended (c .before .if3 .taken))
+    (read-long (a .setting) (a .text .now) (a .list .now) (lines .last .1 .0) (lines .result) (lines .ensures) (omega arith) ended
+    (c .before .if3 .taken))
 
 mul-count : tie.Need-mul-count
 mul-count c = search needs
