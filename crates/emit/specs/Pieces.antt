@@ -14,8 +14,8 @@ use Rattle.output.specs.Puts.{Put}
 abbrev pub plain-of : Numbers → Plain
 plain-of l = cond (eqb (l .kind) 1) (clear (l .index)) (cond (eqb (l .kind) 2) (increment (l .index)) (copy (l .index) (l .source)))
 
-abbrev pub kind-of : ℕ → Kind
-kind-of n = cond (eqb n 4) loop while
+abbrev pub kind-opened : ℕ → Kind
+kind-opened n = cond (eqb n 4) loop while
 
 -- What stands before the body of a LOOP and of a WHILE on register a, with a transfer of n places
 abbrev pub looping : ℕ → ℕ → ℕ → ℕ → List Instruction
@@ -30,10 +30,10 @@ across n m = cond (eqb n 4) (m + 2) (m + 3)
 
 -- What stands before and after a body of m instructions, of a pair that a line opens inside d loops of a program of K variables
 abbrev pub front : ℕ → ℕ → Numbers → ℕ → List Instruction
-front K d l m = before-body K d (kind-of (l .kind)) (l .index) m
+front K d l m = before-body K d (kind-opened (l .kind)) (l .index) m
 
 abbrev pub back : ℕ → ℕ → List Instruction
-back n m = after-body (kind-of n) m ∷ []
+back n m = after-body (kind-opened n) m ∷ []
 
 -- The text of some entries: each its operand times 1, and then its kind times #
 abbrev pub text : List Entry → Bytes

@@ -12,7 +12,7 @@ use Rattle.theory.specs.Word.{Instruction}
 use Rattle.theory.specs.Translation.{plain-code, code}
 use Rattle.theory.proofs.Sizes.{weight-append}
 use Rattle.command.specs.declared.Numbers.{Numbers}
-use Rattle.emit.specs.Pieces.{plain-of, kind-of, front, back}
+use Rattle.emit.specs.Pieces.{plain-of, kind-opened, front, back}
 use Rattle.lengths.specs.Lengths.{length-of}
 use Rattle.lengths.specs.declared.Length.{Length}
 use Rattle.lengths.proofs.Counts.{counts}
@@ -88,7 +88,7 @@ module _ (list : List ℕ) (count K d at : ℕ) (s : Site list count K d at) (g 
       → Counts K d at (first (block-at list at)) (record { size = e; next = at + 1 })
   plain-counts p c = record { size = rw (p .code) c; ended = ap (λ n. at + n) (sym (p .line)) }
 
-  module _ (p : PairHere list count K d at s g l) (n : ℕ) (e : n ≡ deeper (kind-of (l .kind)) d) where
+  module _ (p : PairHere list count K d at s g l) (n : ℕ) (e : n ≡ deeper (kind-opened (l .kind)) d) where
     -- The instructions of the body
     abbrev pub inner : List Instruction
     inner = code K n (block-at list (at + 1))

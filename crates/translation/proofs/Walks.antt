@@ -13,7 +13,7 @@ use Rattle.theory.specs.Word.{Instruction}
 use Rattle.theory.specs.Translation.{plain-code, before-body, code}
 use Rattle.theory.proofs.Sizes.{weight-append}
 use Rattle.command.specs.declared.Numbers.{Numbers}
-use Rattle.emit.specs.Pieces.{plain-of, kind-of, front, back}
+use Rattle.emit.specs.Pieces.{plain-of, kind-opened, front, back}
 use Rattle.lengths.specs.Lengths.{symbols-of}
 use Rattle.translation.specs.Sites.{numbers-at, Says, block-at, goes-on, first, rest, Site}
 use Rattle.translation.proofs.Sites.{numbers-count, Stands, body-site, rest-site, bounds}
@@ -79,7 +79,7 @@ module _ (list : List ℕ) (count K d at : ℕ) where
 
 -- The line or pair at a site, by the numbers of its line
 
-kind-says : (l : Numbers) (k : Kind) (i : ℕ) → Says l (opens k i) → kind-of (l .kind) ≡ k
+kind-says : (l : Numbers) (k : Kind) (i : ℕ) → Says l (opens k i) → kind-opened (l .kind) ≡ k
 kind-says l loop i s = let e : l .kind ≡ 4 = cc in rw e
 kind-says l while i s = let e : l .kind ≡ 6 = cc in rw e
 
@@ -141,9 +141,9 @@ module _ (list : List ℕ) (count K d at : ℕ) (s : Site list count K d at) (g 
 
   -- The code of a pair that line l opens, around that of its body
   pub record PairHere (l : Numbers) : Type 0 where
-    pub site : Site list count K (deeper (kind-of (l .kind)) d) (at + 1)
+    pub site : Site list count K (deeper (kind-opened (l .kind)) d) (at + 1)
     pub code :
-        let inner = code K (deeper (kind-of (l .kind)) d) (block-at list (at + 1)) in
+        let inner = code K (deeper (kind-opened (l .kind)) d) (block-at list (at + 1)) in
         let m = length inner in
         code K d (first (block-at list at)) ≡ front K d l m ++ (inner ++ back (l .kind) m)
     pub line : length (lines (first (block-at list at))) ≡ length (lines (block-at list (at + 1))) + 2
@@ -155,7 +155,7 @@ module _ (list : List ℕ) (count K d at : ℕ) (s : Site list count K d at) (g 
       go : Paired list at → PairHere (numbers-at list at)
       go p =
           let n : Numbers = numbers-at list at in
-          let k : kind-of (n .kind) ≡ p .kind = kind-says n (p .kind) (p .index) (p .says) in
+          let k : kind-opened (n .kind) ≡ p .kind = kind-says n (p .kind) (p .index) (p .says) in
           let inside : _ = body-site list count K d at s (p .kind) (p .index) (p .body) (p .after) (p .block) in
           record {
             site = rw k (inside .site);

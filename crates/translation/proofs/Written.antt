@@ -12,7 +12,7 @@ use Rattle.theory.specs.Translation.{plain-code, code}
 use Rattle.command.specs.declared.Numbers.{Numbers}
 use Rattle.output.specs.Puts.{most}
 use Rattle.output.proofs.Puts.{put-nothing}
-use Rattle.emit.specs.Pieces.{plain-of, kind-of, front, back, Written}
+use Rattle.emit.specs.Pieces.{plain-of, kind-opened, front, back, Written}
 use Rattle.emit.proofs.Puts.{spelt-then}
 use Rattle.translation.specs.Sites.{block-at, goes-on, first, Site, Writes}
 use Rattle.translation.specs.declared.writing.Spot.{Spot}
@@ -58,7 +58,7 @@ module _ (list : List ℕ) (count K d at : ℕ) (s : Site list count K d at) (g 
       → Writes K d at (first (block-at list at)) place start out (record { next = at + 1; place = end })
   plain-writes p w = record { written = rw (p .code) w; ended = ap (λ n. at + n) (sym (p .line)) }
 
-  pub pair-writes : (p : PairHere list count K d at s g l) (n : ℕ) → n ≡ deeper (kind-of (l .kind)) d → (m : ℕ)
+  pub pair-writes : (p : PairHere list count K d at s g l) (n : ℕ) → n ≡ deeper (kind-opened (l .kind)) d → (m : ℕ)
       → m ≡ length (code K n (block-at list (at + 1))) → {place from end : ℕ} {start out out′ out″ : List ℕ} {b : Spot}
       → Written (front K d l m) place start out from → Writes K n (at + 1) (block-at list (at + 1)) from out out′ b
       → Written (back (l .kind) m) (b .place) out′ out″ end

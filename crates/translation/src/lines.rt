@@ -4,7 +4,7 @@ ghost use Prim.Native.Nat.{_+_, _*_, _≤_, _<_};
 ghost use lib.ListN.{length};
 ghost use Rattle.theory.specs.Limits as Limits;
 ghost use Rattle.theory.specs.Source as S;
-ghost use Rattle.emit.specs.Pieces.{kind-of};
+ghost use Rattle.emit.specs.Pieces.{kind-opened};
 ghost use Rattle.translation.specs.Sites.{numbers-at, Accepts, block-at, goes-on};
 use command::Numbers;
 
@@ -40,7 +40,7 @@ pub fn begins(list: &[u8], lines: usize, at: usize) -> bool
 // The loops around the body of a pair that a line of this kind opens, inside `depth` of them.
 pub fn deeper(kind: u8, depth: u8) -> u8
     requires { ⌜ depth ≤ Limits.most-open ⌝ }
-    ensures { λ r. ⌜ r ≡ S.deeper (kind-of kind) depth ⌝ }
+    ensures { λ r. ⌜ r ≡ S.deeper (kind-opened kind) depth ⌝ }
 {
     match kind {
         command::LOOP => depth + 1,

@@ -1,4 +1,4 @@
--- `command::command_size` meets its contract: kind by kind.
+-- `spelling::command_size` meets its contract: kind by kind.
 use native.Mathlib.Omega.{arith}
 use lib.ListN.{length-append}
 use Rattle.spelling.proofs.Spellings.{line-1, line-2, line-3, line-4, line-5, line-6, line-7}

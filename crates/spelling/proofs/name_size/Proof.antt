@@ -1,4 +1,4 @@
--- `command::name_size` meets its contract: an X, and one digit, two or three.
+-- `spelling::name_size` meets its contract: an X, and one digit, two or three.
 use mathlib.Core.Path.{sym, ap}
 use native.Mathlib.Omega.{arith}
 use lib.ListN.{length}

@@ -1,4 +1,4 @@
--- `command::put` meets its contract: byte by byte.
+-- `spelling::put` meets its contract: byte by byte.
 use mathlib.Core.Path.{_≡_, refl, _∙_}
 use Prim.Native.Nat.{_+_, _-_, _≤_}
 use native.Mathlib.Omega.{arith}

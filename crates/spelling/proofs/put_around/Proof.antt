@@ -1,4 +1,4 @@
--- `command::put_around` meets its contract: three writes in a row.
+-- `spelling::put_around` meets its contract: three writes in a row.
 use native.Mathlib.Omega.{arith}
 use Rattle.output.proofs.Puts.{put-then}
 use borrow.Author.Needs.{needs}

@@ -1,4 +1,4 @@
--- `command::put_command` meets its contract: the line at its place, or as much of a line apart as has one.
+-- `spelling::put_command` meets its contract: the line at its place, or as much of a line apart as has one.
 use mathlib.Core.Path.{sym}
 use native.Mathlib.Omega.{arith}
 use lib.Seq.{length-take-le}

@@ -1,4 +1,4 @@
--- `command::put_name` meets its contract: an X, and one digit, two or three.
+-- `spelling::put_name` meets its contract: an X, and one digit, two or three.
 use native.Mathlib.Omega.{arith}
 use Rattle.spelling.proofs.Spellings.{name-one, name-two, name-three}
 use borrow.Author.Needs.{needs}
