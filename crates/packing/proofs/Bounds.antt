@@ -1,4 +1,4 @@
--- The numbers of refusals: a rule's number is 19 at most, and a place is not beyond the symbols that a word may have.
+-- The numbers of refusals: a rule's number has two digits at most, and a place is not beyond the symbols that a word may have.
 use mathlib.Core.Path.{_≡_, refl, sym, ap, subst, _∙_}
 use mathlib.Core.Bool.{Bool, true, false, cond, not, _&&_, _||_}
 use mathlib.Core.Option.{Option, none, some, Option·none-ne-some, Option·some-injective}

@@ -1,15 +1,19 @@
--- Nothing is cut where an answer is packed.
-use mathlib.Core.Path.{_≡_}
-use Prim.Native.Nat.{ℕ, _+_, _*_, _/_, _%_, _^_, _<_}
+-- Every number tells a setting, and nothing is cut where an answer is packed.
+use mathlib.Core.Path.{_≡_, refl}
+use Prim.Native.Nat.{ℕ, suc, _+_, _*_, _/_, _%_, _^_, _<_}
 use native.Mathlib.Omega.{arith}
+use borrow.Author.Tests.{ne-eqb}
 use mathlib.Core.List.{List}
 use Rattle.theory.specs.ProgramText.{Command}
 use Rattle.theory.specs.Runs.{Outcome}
 use Rattle.theory.specs.TurnedDown.{Answer, done, refused}
 use Rattle.theory.specs.declared.Refusal.{Refusal}
 use Rattle.packing.specs.Packed.{pack, packed, commands, sizes, count, ending}
-use Rattle.packing.specs.Claims.{Fields, Fit, unpack, NothingCut, ReadsBack}
+use Rattle.packing.specs.Claims.{SettingsTold, Fields, Fit, unpack, NothingCut, ReadsBack}
 use Rattle.packing.specs.Claims.{fields, program-fields, word-fields, count-fields, end-fields}
+
+pub settings-told : SettingsTold
+settings-told = (refl, λ n. rw (ne-eqb (suc n) 0 (λ e. omega arith)))
 
 module _ (what high low : ℕ) (w : what < 2 ^ 8) (h : high < 2 ^ 16) (l : low < 2 ^ 32) where
   n : ℕ

@@ -1,7 +1,8 @@
--- Nothing is cut where an answer is packed into one number: stated here, proved in proofs/Unpacked.antt and proofs/Fitting.antt.
+-- Every number tells a setting, and nothing is cut where an answer is packed into one number: stated here, proved in proofs/Unpacked.antt
+-- and proofs/Fitting.antt.
 use mathlib.Core.Path.{_≡_}
 use mathlib.Core.List.{List}
-use Prim.Native.Nat.{ℕ, _/_, _%_, _^_, _<_}
+use Prim.Native.Nat.{ℕ, suc, _/_, _%_, _^_, _<_}
 use lib.ListN.{length}
 use Rattle.theory.specs.Text.{Bytes}
 use Rattle.theory.specs.ProgramText.{Command, variables}
@@ -13,7 +14,12 @@ use Rattle.theory.specs.TurnedDown.{Answer, done, refused, read-text-under, rea
 use Rattle.theory.specs.TurnedDown.{read-program-into, write-program-into, translate-into, run-program}
 use Rattle.theory.specs.TurnedDown.{read-word-into, write-word-into, run-on}
 use Rattle.theory.specs.declared.Setting.{Setting}
-use Rattle.packing.specs.Packed.{pack, end-number, packed, commands, sizes, count, ending}
+use Rattle.theory.specs.declared.Setting.the-variants.{Any, LoopOnly}
+use Rattle.packing.specs.Packed.{setting-of, pack, end-number, packed, commands, sizes, count, ending}
+
+-- 0 is outside the LOOP-only setting, and every other number is under it
+abbrev pub SettingsTold : Type 0
+SettingsTold = (setting-of 0 ≡ Any) × ((n : ℕ) → setting-of (suc n) ≡ LoopOnly)
 
 -- What a number says, field by field, as the header reads it: bits 56 to 63, bits 32 to 47, bits 0 to 31
 pub record Fields : Type 0 where
