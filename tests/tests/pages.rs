@@ -95,7 +95,7 @@ fn what_must_be_believed() {
 /// How the twin came to be is said in the same words wherever it is said.
 #[test]
 fn the_twin() {
-    let words = "separate code written from document 01 by the same hand as the definitions and after them";
+    let words = "separate code written from documents 01 and 02 by the same hand as the definitions and after them";
     for name in ["README.md", "docs/PROMISES.md", "docs/DECISIONS.md", "tests/src/lib.rs"] {
         let text = page(name).replace("//!", " ").replace(" in Rust", "").replace(',', " ").to_lowercase();
         let text = text.split_whitespace().collect::<Vec<_>>().join(" ");
