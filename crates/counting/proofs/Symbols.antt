@@ -1,20 +1,15 @@
--- Words of 1s and #s alone. A loop tests byte by byte how far it is from the middle between the two.
+-- Words of 1s and #s alone.
 use mathlib.Core.Path.{_≡_, refl}
-use mathlib.Core.Bool.{Bool, true, false, _&&_}
-use mathlib.Core.Logic.{⊎-elim}
+use mathlib.Core.Bool.{Bool, true, false}
 use mathlib.Core.List.{List, [], _∷_}
-use Prim.Native.Nat.{ℕ, zero, suc, _+_, _-_, _<_}
-use native.Mathlib.Numerals.{add-one}
+use Prim.Native.Nat.{ℕ, zero, suc}
 use native.Mathlib.Omega.{arith}
-use lib.ListN.{length, drop, getD}
-use lib.Seq.{drop-cons}
-use borrow.Author.Tests.{ne-eqb}
+use lib.ListN.{length, drop}
 use Rattle.theory.specs.Basics.{all}
 use Rattle.theory.specs.Word.{is-symbol}
 use Rattle.theory.proofs.Faults.{and-first, and-second}
 use Rattle.text.specs.Runs.{leading}
 use Rattle.text.proofs.Runs.{leading-pass, leading-fail, leading-nil}
-use Rattle.counting.proofs.Flags.{lt-or-le}
 
 -- Every byte is 1 or #
 abbrev pub Known : List ℕ → Type 0
@@ -34,20 +29,6 @@ pub known-drop : (i : ℕ) (w : List ℕ) → Known w → Known (drop i w)
 known-drop zero w h = h
 known-drop (suc i) [] h = h
 known-drop (suc i) (b ∷ w) h = known-drop i w (known-tail b w h)
-
-pub symbol-at : (b d : ℕ) → d ≡ (b - 42) + (42 - b) → d ≡ 7 → is-symbol b ≡ true
-symbol-at b d e h =
-    ⊎-elim
-    (λ l. let q : b ≡ 35 = omega arith in rw q)
-    (λ l. let q : b ≡ 49 = omega arith in rw q)
-    (lt-or-le b 42)
-
-pub other-at : (b d : ℕ) → d ≡ (b - 42) + (42 - b) → (d ≡ 7 → ⊥) → is-symbol b ≡ false
-other-at b d e h = rw (ne-eqb b 49 (λ q. h (omega (arith, q))), ne-eqb b 35 (λ q. h (omega (arith, q))))
-
-pub all-at : (w : List ℕ) (i : ℕ) → i < length w
-    → all is-symbol (drop i w) ≡ (is-symbol (getD w i 0) && all is-symbol (drop (i + 1) w))
-all-at w i h = rw (drop-cons w i 0 h, add-one i)
 
 pub known-of-all : (w : List ℕ) → all is-symbol w ≡ true → Known w
 known-of-all [] h = leading-nil is-symbol

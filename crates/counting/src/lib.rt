@@ -2,37 +2,11 @@
 // tested at once: how many instructions a word has where rules 12 and 13 let it pass.
 ghost use mathlib.Core.Path.{_≡_};
 ghost use mathlib.Core.Bool.{true};
-ghost use Prim.Native.Nat.{_+_, _-_, _≤_, min, max};
+ghost use Prim.Native.Nat.{_≤_, min, max};
 ghost use lib.ListN.{length};
 ghost use Rattle.theory.specs.Basics.{all};
 ghost use Rattle.theory.specs.Word.{is-symbol};
 ghost use Rattle.counting.specs.Counts.{instruction-count, is-sixless, rises as rises-in};
-
-fn distance(a: u8, b: u8) -> u8
-    ensures { λ r. ⌜ r ≡ (a - b) + (b - a) ⌝ }
-{
-    if a < b { b - a } else { a - b }
-}
-
-// The byte in the middle between a # and a 1, and how far it is from both.
-const MIDDLE: u8 = 42;
-
-const AWAY: u8 = 7;
-
-// Whether every byte is a 1 or a #.
-fn all_symbols(word: &[u8]) -> bool
-    ensures { λ r. ⌜ r ≡ all is-symbol (now (word .entry)) ⌝ }
-{
-    let mut ok = true;
-    let mut i: usize = 0;
-    while i < word.len() {
-        if distance(word[i], MIDDLE) != AWAY {
-            ok = false;
-        }
-        i += 1;
-    }
-    ok
-}
 
 fn larger(a: u8, b: u8) -> u8
     ensures { λ r. ⌜ r ≡ max a b ⌝ }
@@ -117,7 +91,7 @@ pub fn count(word: &[u8]) -> usize
     if word[size - 1] != b'#' {
         return 0;
     }
-    if !all_symbols(word) {
+    if !text::are_symbols(word) {
         return 0;
     }
     if !few_hashes(word) {

@@ -3,28 +3,9 @@ ghost use mathlib.Core.Path.{_≡_};
 ghost use lib.Dec.{eqb};
 ghost use lib.ListN.{length};
 ghost use Rattle.theory.specs.Basics.{all};
-ghost use Rattle.theory.specs.Word.{is-symbol};
 ghost use Rattle.theory.specs.Machines.{is-laid};
 
-// Whether each byte of a part is `1` or `#`. All are looked at, whatever the first are: without an early end many are tested at once.
-fn symbols(part: &[u8]) -> bool
-    ensures { λ r. ⌜ r ≡ all is-symbol (now (part .entry)) ⌝ }
-{
-    let mut ok = true;
-    let mut i: usize = 0;
-    while i < part.len() {
-        let b = part[i];
-        if b != b'1' {
-            if b != b'#' {
-                ok = false;
-            }
-        }
-        i += 1;
-    }
-    ok
-}
-
-// Whether each byte of a part is 0.
+// Whether each byte of a part is 0. All are looked at, as in `are_symbols`.
 fn zeros(part: &[u8]) -> bool
     ensures { λ r. ⌜ r ≡ all (eqb 0) (now (part .entry)) ⌝ }
 {
@@ -46,7 +27,7 @@ pub fn is_laid(part: &[u8], n: usize) -> bool
     if part.len() < n {
         return false;
     }
-    if !symbols(&part[..n]) {
+    if !text::are_symbols(&part[..n]) {
         return false;
     }
     zeros(&part[n..])

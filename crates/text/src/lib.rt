@@ -1,8 +1,11 @@
-// What stands at a place of a text: how far a run goes, where a line ends, a numeral, a name. A place past the end has nothing at it.
+// What stands at a place of a text: how far a run goes, where a line ends, a numeral, a name. A place past the end has nothing at it. And
+// whether bytes are the symbols of a word.
 ghost use mathlib.Core.Path.{_≡_};
 ghost use Prim.Native.Nat.{_+_, _-_, _*_, min};
 ghost use lib.ListN.{length, drop};
+ghost use Rattle.theory.specs.Basics.{all};
 ghost use Rattle.theory.specs.Text.{LF, numeral as numeral-of, name as name-of};
+ghost use Rattle.theory.specs.Word.{is-symbol};
 ghost use Rattle.text.specs.Runs.{run, before};
 ghost use Rattle.text.specs.Numbers.{found-in, DigitsTo};
 
@@ -127,4 +130,30 @@ pub fn name(text: &[u8], at: usize, most: u64) -> Number
         return Number::No;
     }
     numeral(text, at + 1, most)
+}
+
+fn distance(a: u8, b: u8) -> u8
+    ensures { λ r. ⌜ r ≡ (a - b) + (b - a) ⌝ }
+{
+    if a < b { b - a } else { a - b }
+}
+
+// The byte in the middle between a # and a 1, and how far it is from both.
+const MIDDLE: u8 = 42;
+
+const AWAY: u8 = 7;
+
+// Whether each byte is a 1 or a #. All are looked at, and with one test: without an early end many are tested at once.
+pub fn are_symbols(bytes: &[u8]) -> bool
+    ensures { λ r. ⌜ r ≡ all is-symbol (now (bytes .entry)) ⌝ }
+{
+    let mut ok = true;
+    let mut i: usize = 0;
+    while i < bytes.len() {
+        if distance(bytes[i], MIDDLE) != AWAY {
+            ok = false;
+        }
+        i += 1;
+    }
+    ok
 }

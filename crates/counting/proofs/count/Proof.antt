@@ -28,17 +28,17 @@ shared-slice-read-if3 c = omega arith
 returns-3 : tie.Need-returns-3
 returns-3 c = sym (other-count (c .before .before .before .before .before .before .args .word .now) (λ p. c .if3 .taken (p .ends)))
 
-all-symbols-requires : tie.Need-all-symbols-requires
-all-symbols-requires c κs = search needs
+are-symbols-requires : tie.Need-are-symbols-requires
+are-symbols-requires c κs = search needs
 
 returns-4 : tie.Need-returns-4
 returns-4 c =
     let w = c .before .before .before .before .before .before .before .before .args .word .now in
     sym (other-count w
-    (λ p. not-both _ (c .before .all-symbols .ensures ∙ all-of-known w (p .known)) (not-true _ (c .if4 .taken))))
+    (λ p. not-both _ (c .before .are-symbols .ensures ∙ all-of-known w (p .known)) (not-true _ (c .if4 .taken))))
 
 few-hashes-requires : tie.Need-few-hashes-requires
-few-hashes-requires c κs = sym (c .before .all-symbols .ensures) ∙ not-false _ (c .if4 .left)
+few-hashes-requires c κs = sym (c .before .are-symbols .ensures) ∙ not-false _ (c .if4 .left)
 
 returns-5 : tie.Need-returns-5
 returns-5 c =
@@ -60,7 +60,7 @@ returns-6 c =
     let end = known .before .before in
     let start = end .before .before in
     let w = start .before .before .before .before .args .word .now in
-    let all = sym (known .before .all-symbols .ensures) ∙ not-false _ (known .if4 .left) in
+    let all = sym (known .before .are-symbols .ensures) ∙ not-false _ (known .if4 .left) in
     let plain : Plain w = record {
       starts = start .if2 .left;
       ends = end .if3 .left;
@@ -79,7 +79,7 @@ count-spec =
     sub-if3
     shared-slice-read-if3
     returns-3
-    all-symbols-requires
+    are-symbols-requires
     returns-4
     few-hashes-requires
     returns-5

@@ -10,18 +10,18 @@ use Rattle.layout.proofs.is_laid.Tie as tie
 returns : tie.Need-returns
 returns c = sym (laid-short (c .before .before .args .part .now) (c .before .before .args .n) (c .if1 .taken))
 
-slice-aggregate-symbols : tie.Need-slice-aggregate-symbols
-slice-aggregate-symbols c =
+slice-aggregate-are-symbols : tie.Need-slice-aggregate-are-symbols
+slice-aggregate-are-symbols c =
     let a = c .before .before .before .args in
     sym (length-take-le (a .n) (a .part .now) (search needs))
 
-symbols-requires : tie.Need-symbols-requires
-symbols-requires c κs = search needs
+are-symbols-requires : tie.Need-are-symbols-requires
+are-symbols-requires c κs = search needs
 
 returns-2 : tie.Need-returns-2
 returns-2 c =
     let a = c .before .before .before .before .before .args in
-    sym (laid-other (a .part .now) (a .n) (search needs) (sym (c .before .symbols .ensures) ∙ not-true _ (c .if2 .taken)))
+    sym (laid-other (a .part .now) (a .n) (search needs) (sym (c .before .are-symbols .ensures) ∙ not-true _ (c .if2 .taken)))
 
 sub-zeros : tie.Need-sub-zeros
 sub-zeros c = search needs
@@ -38,7 +38,7 @@ zeros-requires c κs = search needs
 returns-3 : tie.Need-returns-3
 returns-3 c =
     let a = c .before .before .before .before .before .before .before .args in
-    c .zeros .ensures ∙ sym (laid-rest (a .part .now) (a .n) (search needs) (sym (c .before .before .before .symbols .ensures)
+    c .zeros .ensures ∙ sym (laid-rest (a .part .now) (a .n) (search needs) (sym (c .before .before .before .are-symbols .ensures)
     ∙ not-false _ (c .before .before .if2 .left)))
 
 pub is-laid-spec : {M : Type 1} → statement M
@@ -46,8 +46,8 @@ is-laid-spec =
     tie.close
     (tie.spec
     returns
-    slice-aggregate-symbols
-    symbols-requires
+    slice-aggregate-are-symbols
+    are-symbols-requires
     returns-2
     sub-zeros
     part-zeros-start

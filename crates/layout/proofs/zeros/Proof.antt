@@ -5,7 +5,7 @@ use mathlib.Core.Logic.{⊎-elim}
 use Prim.Native.Nat.{_≤_, _-_}
 use lib.ListN.{length, drop}
 use Rattle.theory.specs.Basics.{all}
-use Rattle.layout.proofs.Lists.{all-next, all-fails, all-passed}
+use Rattle.text.proofs.Tests.{all-next, all-fails, all-passed}
 use lib.Dec.{eqb}
 use borrow.Author.Tests.{eq-eqb, ne-eqb}
 use borrow.Author.Needs.{needs}

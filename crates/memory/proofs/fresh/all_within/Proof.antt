@@ -6,7 +6,7 @@ use borrow.Author.Tests.{le-leb, lt-leb}
 use lib.Dec.{leb}
 use lib.ListN.{length, drop, drop-of-length-le}
 use Rattle.theory.specs.Basics.{all}
-use Rattle.layout.proofs.Lists.{all-next, all-fails}
+use Rattle.text.proofs.Tests.{all-next, all-fails}
 use borrow.Author.Needs.{needs}
 use Rattle.memory.proofs.fresh.all_within.Statement.{statement}
 use Rattle.memory.proofs.fresh.all_within.Tie as tie
