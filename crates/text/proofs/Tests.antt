@@ -13,7 +13,7 @@ use lib.Seq.{drop-cons}
 use Rattle.theory.specs.Basics.{all}
 use Rattle.theory.specs.Word.{is-symbol}
 
-pub and-false : (b : Bool) → (b && false) ≡ false
+and-false : (b : Bool) → (b && false) ≡ false
 and-false true = refl
 and-false false = refl
 

@@ -132,6 +132,7 @@ pub fn name(text: &[u8], at: usize, most: u64) -> Number
     numeral(text, at + 1, most)
 }
 
+// How far two bytes are apart.
 fn distance(a: u8, b: u8) -> u8
     ensures { λ r. ⌜ r ≡ (a - b) + (b - a) ⌝ }
 {
