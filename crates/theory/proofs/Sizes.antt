@@ -20,7 +20,7 @@ use Rattle.theory.specs.Runs.{register}
 use Rattle.theory.specs.Translation.{scratch, counter, clearing, sharing, returning, touching, copying, plain-code}
 use Rattle.theory.specs.Translation.{before-body, after-body, code, word, word-of, word-text}
 use Rattle.theory.specs.TurnedDown.{done, total, entry-size, next-byte, first-along, names-register, lacks, rule-15, read-word-for}
-use Rattle.theory.specs.Claims.{Accepted, NamesAtMost, Sized, WordsFit}
+use Rattle.theory.specs.Claims.{Accepted, NamesAtMost, Sized, FitsASet, WordsFit}
 use Rattle.theory.proofs.Nesting.{nest, shallow, short, few-variables, well-nested}
 use Rattle.theory.proofs.Faults.{neither}
 use Rattle.theory.proofs.Words.{total-length, GoodTable, entries-of-word, word-accepted}
@@ -177,7 +177,7 @@ ends-light : (K d : ℕ) (k : Kind) (i m : ℕ) → K ≤ 32 → i < 32 → d �
 ends-light K d loop i m h l e = omega arith
 ends-light K d while i m h l e = omega arith
 
-variables-append : (p q : List Command) → variables (p ++ q) ≡ max (variables p) (variables q)
+pub variables-append : (p q : List Command) → variables (p ++ q) ≡ max (variables p) (variables q)
 variables-append [] q = omega arith
 variables-append (c ∷ p) q = omega (arith, variables-append p q)
 
@@ -248,7 +248,7 @@ module _ (most : ℕ) where
       let B3 : Fits most (backward 3) = backward-fits 3 (omega arith) in
       (cases-fit t ht, (F3, (append-fits a ha, (B3, tt))))
 
-  clearing-fits : (a : ℕ) → Register a → EachOf (Fits most) (clearing a)
+  pub clearing-fits : (a : ℕ) → Register a → EachOf (Fits most) (clearing a)
   clearing-fits a h = (cases-fit a h, (forward-fits 2 (omega arith), (backward-fits 2 (omega arith), tt)))
 
   touching-fits : (a : ℕ) → Register a → EachOf (Fits most) (touching a)
@@ -312,7 +312,7 @@ code-fits K d (pair k i body b) l s =
 
 -- The word of an accepted program
 
-word-fits : (p : List Command) → Accepted p → EachOf (Fits (variables p + 17)) (word-of p)
+pub word-fits : (p : List Command) → Accepted p → EachOf (Fits (variables p + 17)) (word-of p)
 unfolding word-of word
 word-fits p a =
     let b : Block = block-of p in
@@ -320,18 +320,28 @@ word-fits p a =
     let room : 0 + nest b ≤ 16 = omega (arith, shallow p a) in
     (forward-fits (variables p + 17) 1 (omega arith), rw e (code-fits (variables p) 0 b (rw e (omega arith)) room))
 
-pub sized : (p : List Command) → Accepted p → Sized p
+-- 512 lines of at most 635 symbols and 12 instructions each, and F1
+pub word-limits : (p : List Command) → Accepted p → (weight (word-of p) ≤ 325124) × (length (word-of p) ≤ 6145)
 unfolding word-of word
-sized p a =
+word-limits p a =
     let b : Block = block-of p in
     let K : ℕ = variables p in
     let e : lines b ≡ p = well-nested p a in
     let few : K ≤ 32 = omega (arith, few-variables p a) in
     let deep : nest b ≤ 16 = omega (arith, shallow p a) in
-    let w : length (lines b) ≤ 512 = rw e (omega (arith, short p a)) in
+    let w : length (lines b) ≤ 512 = rw e (omega (arith, short p a)) in (
+      rw e (omega (arith, code-weight K 0 16 b few (rw e few) (omega arith) deep)),
+      rw e (omega (arith, code-length K 0 b)),
+    )
+
+sized : (p : List Command) → Accepted p → Sized (variables p) (word-of p)
+unfolding word-of word
+sized p a =
+    let K : ℕ = variables p in
     record {
-      few-symbols = rw (spelled (word b), e) (omega (arith, code-weight K 0 16 b few (rw e few) (omega arith) deep));
-      few-instructions = rw e (omega (arith, code-length K 0 b));
+      some-instruction = omega arith;
+      few-symbols = omega (arith, spelled (word-of p), word-limits p a .0);
+      few-instructions = omega (arith, word-limits p a .1);
       operands-from-1 = each-map (Fits (K + 17)) (λ i. 1 ≤ operand i) (λ i f. f .operand) (word-of p) (word-fits p a);
       low-registers = each-map (Fits (K + 17)) (NamesAtMost (K + 17)) (λ i f. f .register) (word-of p) (word-fits p a);
       few-variables = few-variables p a;
@@ -350,29 +360,32 @@ rule-15-passes most n (i ∷ w) h =
     go true e = rw (le-ltb most (operand i) (h .0 e))
     go false e = refl
 
-word-good : (p : List Command) → Sized p → GoodTable (table-of (word-of p))
-unfolding word-of word spell
-word-good p s =
+word-good : (K : ℕ) (w : List Instruction) → Sized K w → GoodTable (table-of w)
+unfolding spell
+word-good K w s =
     record {
-      some = omega arith;
-      symbols = omega (arith, s .few-symbols, spelled (word-of p));
-      formed = formed-of-instructions (word-of p) (s .operands-from-1);
-      instructions = omega (arith, s .few-instructions, length-map (word-of p) entry-of);
+      some = omega (arith, s .some-instruction, length-map w entry-of);
+      symbols = omega (arith, s .few-symbols, spelled w);
+      formed = formed-of-instructions w (s .operands-from-1);
+      instructions = omega (arith, s .few-instructions, length-map w entry-of);
     }
 
-pub words-fit : WordsFit
-unfolding read-word-for word-text spell rule-15
-words-fit p a = (sized p a, read, instructions-of-table (word-of p) (sized p a .operands-from-1))
+pub fits-a-set : (K : ℕ) (w : List Instruction) → Sized K w → FitsASet K w (bytes-of (spell w))
+unfolding read-word-for spell rule-15
+fits-a-set K w s = record { sized = s; read = read; same = instructions-of-table w (s .operands-from-1) }
   where
-    within-64 : EachOf (NamesAtMost Limits.most-registers) (word-of p)
+    within-64 : EachOf (NamesAtMost Limits.most-registers) w
     within-64 =
-        let most : ℕ = variables p + 17 in
-        let enough : most ≤ Limits.most-registers = omega (arith, few-variables p a) in
-        let names : (i : Instruction) → NamesAtMost most i → NamesAtMost Limits.most-registers i = λ i h e. omega (arith, h e) in
-        each-map (NamesAtMost most) (NamesAtMost Limits.most-registers) names (word-of p) (sized p a .low-registers)
+        let names : (i : Instruction) → NamesAtMost (K + 17) i → NamesAtMost Limits.most-registers i =
+        λ i h e. omega (arith, h e, s .few-variables) in
+        each-map (NamesAtMost (K + 17)) (NamesAtMost Limits.most-registers) names w (s .low-registers)
 
-    read : read-word-for Limits.most-registers (word-text p) ≡ done (table-of (word-of p))
+    read : read-word-for Limits.most-registers (bytes-of (spell w)) ≡ done (table-of w)
     read =
-        let t : List Entry = table-of (word-of p) in
-        let g : GoodTable t = word-good p (sized p a) in
-        rw (entries-of-word t (g .formed), word-accepted t g, rule-15-passes Limits.most-registers 0 (word-of p) within-64)
+        let t : List Entry = table-of w in
+        let g : GoodTable t = word-good K w s in
+        rw (entries-of-word t (g .formed), word-accepted t g, rule-15-passes Limits.most-registers 0 w within-64)
+
+pub words-fit : WordsFit
+unfolding word-text
+words-fit p a = fits-a-set (variables p) (word-of p) (sized p a)

@@ -126,19 +126,23 @@ SpentRightly =
 abbrev pub NamesAtMost : ℕ → Instruction → Type 0
 NamesAtMost most i = names-register (kind i) ≡ true → operand i ≤ most
 
-pub record Sized (p : List Command) : Type 0 where
-  pub few-symbols : length (spell (word-of p)) ≤ Limits.most-symbols
-  pub few-instructions : length (word-of p) ≤ Limits.most-instructions
-  pub operands-from-1 : EachOf (λ i. 1 ≤ operand i) (word-of p)
-  pub low-registers : EachOf (NamesAtMost (variables p + 17)) (word-of p)
-  pub few-variables : variables p ≤ suc Limits.most-index
+-- Of a word w of a program of K variables
+pub record Sized (K : ℕ) (w : List Instruction) : Type 0 where
+  pub some-instruction : 1 ≤ length w
+  pub few-symbols : length (spell w) ≤ Limits.most-symbols
+  pub few-instructions : length w ≤ Limits.most-instructions
+  pub operands-from-1 : EachOf (λ i. 1 ≤ operand i) w
+  pub low-registers : EachOf (NamesAtMost (K + 17)) w
+  pub few-variables : K ≤ suc Limits.most-index
+
+-- and of its symbols as they are written
+pub record FitsASet (K : ℕ) (w : List Instruction) (text : Bytes) : Type 0 where
+  pub sized : Sized K w
+  pub read : read-word-for Limits.most-registers text ≡ done (table-of w)
+  pub same : instructions (table-of w) ≡ w
 
 abbrev pub WordsFit : Type 0
-WordsFit =
-    (p : List Command) → Accepted p
-    → Sized p
-    × (read-word-for Limits.most-registers (word-text p) ≡ done (table-of (word-of p)))
-    × (instructions (table-of (word-of p)) ≡ word-of p)
+WordsFit = (p : List Command) → Accepted p → FitsASet (variables p) (word-of p) (word-text p)
 
 -- 4. Reading undoes writing, and writing undoes reading (of texts in digits, which are all texts)
 abbrev pub TextRoundTrip : Type 0

@@ -1,8 +1,9 @@
 -- Document 01, "Machines of the set": fresh states, the layout of a machine's store, and the value of a halted word.
+use mathlib.Core.Path.{_≡_}
 use mathlib.Core.Bool.{Bool, cond, _&&_}
 use mathlib.Core.Option.{Option, none, some}
 use mathlib.Core.List.{List, [], _++_, map}
-use Prim.Native.Nat.{ℕ, zero, suc, _+_, _-_, _*_}
+use Prim.Native.Nat.{ℕ, zero, suc, _+_, _-_, _*_, _<_}
 use lib.IntN.{ℤ, pos}
 use lib.ListN.{length, getD, take, drop, replicate}
 use lib.Dec.{eqb, ltb, leb}
@@ -113,13 +114,30 @@ word-state m p = record { place = p .place; registers = contents m }
 unfoldable pub run-word : List Instruction → Memory → Position → ℕ → Outcome W.State
 run-word w m p budget = run (W.machine (within (m .capacity)) w) budget (p .steps) (word-state m p)
 
--- "The value of a halted word is register 1". Of a word that is not halted document 01 says nothing: here it has none
-abbrev pub value-where : Option End → List Symbol → Option (List Symbol)
-value-where none xs = none
-value-where (some Halted) xs = some xs
-value-where (some End.Strayed) xs = none
-value-where (some End.Spent) xs = none
-value-where (some End.Full) xs = none
+-- Document 02, request 2: "The paper counts a value only when every register but the first is empty. So a halted word's value is now
+-- register 1 under that condition, and otherwise the answer is untidy"
+pub data Value : Type 0 where
+  valued : List Symbol → Value
+  untidy : Value
 
-unfoldable pub word-value : List Instruction → W.State → Option (List Symbol)
-word-value w s = value-where (W.ended-at (length w) (s .place)) (s .registers 1)
+-- The condition, on registers without end
+abbrev pub HasValue : (ℕ → List Symbol) → List Symbol → Type 0
+HasValue f xs = (f 1 ≡ xs) × ((r : ℕ) → 1 < r → f r ≡ [])
+
+-- On a machine of n registers it is a test: registers 2 to n hold nothing
+abbrev pub is-tidy : ℕ → (ℕ → List Symbol) → Bool
+is-tidy n f = all-below (n - 1) (λ i. eqb (length (f (i + 2))) 0)
+
+abbrev pub value-at : ℕ → (ℕ → List Symbol) → Value
+value-at n f = cond (is-tidy n f) (valued (f 1)) untidy
+
+-- Of a word that is not halted the papers say nothing: here it has no value, and is not untidy either
+abbrev pub halted-only : {A : Type 0} → Option End → A → Option A
+halted-only none x = none
+halted-only (some Halted) x = some x
+halted-only (some End.Strayed) x = none
+halted-only (some End.Spent) x = none
+halted-only (some End.Full) x = none
+
+unfoldable pub word-value : List Instruction → ℕ → W.State → Option Value
+word-value w n s = halted-only (W.ended-at (length w) (s .place)) (value-at n (s .registers))

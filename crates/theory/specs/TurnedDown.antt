@@ -14,7 +14,6 @@ use Rattle.theory.specs.Runs.{Outcome}
 use Rattle.theory.specs.Source as S
 use Rattle.theory.specs.Word as W
 use Rattle.theory.specs.Word.{Entry, Instruction, is-symbol, symbol-of, entries, instruction-of, spell-entries, bytes-of}
-use Rattle.theory.specs.Translation.{word-text}
 use Rattle.theory.specs.Machines.{SourceState, run-source, Memory, Position, run-word, is-memory, is-limited}
 use Rattle.theory.specs.RunSheet.{names, values, distinct}
 use Rattle.theory.specs.declared.Refusal.{Refusal}
@@ -323,9 +322,9 @@ read-program-into σ lent t = after (read-text-under σ t) λ p. answer (rule-19
 unfoldable pub write-program-into : Setting → Bytes → List ℕ → Answer Bytes
 write-program-into σ lent l = lend lent (mapped text-of (read-list-under σ l))
 
--- A program, handed in as text (1 to 8) or list (3 to 8), translated into a lent output: its rules, 19
-unfoldable pub translate-into : Bytes → Answer (List Command) → Answer (List Command)
-translate-into lent program = after program λ p. answer (rule-19 lent (word-text p)) p
+-- A program, handed in as text (1 to 8) or list (3 to 8), translated into a lent output as the word that `text` writes: its rules, 19
+unfoldable pub translate-into : (List Command → Bytes) → Bytes → Answer (List Command) → Answer (List Command)
+translate-into text lent program = after program λ p. answer (rule-19 lent (text p)) p
 
 -- A program, handed in so, run from a state: its rules, 9, the run
 unfoldable pub run-from : SourceState → ℕ → List Command → Answer (Outcome S.State)
