@@ -6,7 +6,7 @@ use crate::library::{self, Code, RunTool};
 use crate::machine::Machine;
 use crate::program::{self, list, variables, write, Command, Setting};
 use crate::source::{self, State};
-use crate::translation::translate;
+use crate::translation::{translate, Form};
 use crate::word::{self, spell, Instruction};
 use crate::{refuse, tool, Answer, Refusal};
 use std::fmt;
@@ -24,6 +24,18 @@ pub fn setting_of(number: u32) -> Setting {
     match number {
         ANY => Setting::Any,
         _ => Setting::LoopOnly,
+    }
+}
+
+/// The forms of a word as the C entries are given them.
+pub const PLAIN: u32 = 0;
+pub const TIDY: u32 = 1;
+
+/// The form that a number stands for: one that is neither of these counts as plain.
+pub fn form_of(number: u32) -> Form {
+    match number {
+        TIDY => Form::Tidy,
+        _ => Form::Plain,
     }
 }
 
@@ -71,20 +83,22 @@ impl Program {
 #[derive(Clone)]
 pub enum Case {
     Convert { setting: u32, program: Program, lent: usize },
-    Translate { setting: u32, program: Program, lent: usize },
+    Translate { setting: u32, form: u32, program: Program, lent: usize },
     RunSource { setting: u32, program: Program, state: Vec<u32>, budget: u32 },
     ReadWord { word: Vec<u8>, kinds: usize, operands: usize },
     WriteWord { kinds: Vec<u8>, operands: Vec<u32>, lent: usize },
     RunWord { word: Vec<u8>, machine: Machine, budget: u32 },
     RunTable { kinds: Vec<u8>, operands: Vec<u32>, machine: Machine, budget: u32 },
+    Value { machine: Machine },
     Report { text: Vec<u8>, sheet: Vec<u8> },
 }
 
 impl fmt::Debug for Case {
     fn fmt(&self, f: &mut fmt::Formatter) -> fmt::Result {
         match self {
-            Case::Convert { setting, program, lent } | Case::Translate { setting, program, lent } => {
-                write!(f, "setting {setting}, {program:?}, lent {lent}")
+            Case::Convert { setting, program, lent } => write!(f, "setting {setting}, {program:?}, lent {lent}"),
+            Case::Translate { setting, form, program, lent } => {
+                write!(f, "setting {setting}, form {form}, {program:?}, lent {lent}")
             }
             Case::RunSource { setting, program, state, budget } => {
                 write!(f, "setting {setting}, {program:?}, state {state:?}, budget {budget}")
@@ -95,6 +109,7 @@ impl fmt::Debug for Case {
             Case::RunTable { kinds, operands, machine, budget } => {
                 write!(f, "kinds {kinds:?}, operands {operands:?}, {machine:?}, budget {budget}")
             }
+            Case::Value { machine } => write!(f, "{machine:?}"),
             Case::Report { text, sheet } => write!(f, "\"{}\", sheet \"{}\"", text.escape_ascii(), sheet.escape_ascii()),
         }
     }
@@ -186,6 +201,15 @@ fn run_accepted(accepted: Result<Vec<Instruction>, Refusal>, from: &Machine, bud
     Outcome { answer, memory: memory(&machine) }
 }
 
+fn value(machine: &Machine) -> Outcome {
+    let answer = match machine.check().map(|()| machine.value()) {
+        Err(r) => Answer::Refused(r),
+        Ok(None) => Answer::Untidy,
+        Ok(Some(symbols)) => Answer::Done { high: 0, low: symbols.len() as u32 },
+    };
+    Outcome { answer, memory: memory(machine) }
+}
+
 fn printed(text: &str) -> Outcome {
     let answer = match tool::refusal(text) {
         Some(r) => Answer::Refused(r),
@@ -207,6 +231,7 @@ impl Case {
             Case::WriteWord { .. } => "write a word",
             Case::RunWord { .. } => "run a word",
             Case::RunTable { .. } => "run a table",
+            Case::Value { .. } => "value",
             Case::Report { .. } => "the run tool",
         }
     }
@@ -221,8 +246,8 @@ impl Case {
                 };
                 written(program.converted(setting), *lent, high, low)
             }
-            Case::Translate { setting, program, lent } => {
-                let table = program.read(setting_of(*setting)).map(|c| translate(&c));
+            Case::Translate { setting, form, program, lent } => {
+                let table = program.read(setting_of(*setting)).map(|c| translate(form_of(*form), &c));
                 let high = table.as_ref().map_or(0, |t| t.len());
                 written(table.map(|t| spell(&t)), *lent, high, 1)
             }
@@ -237,6 +262,7 @@ impl Case {
                 let table = zipped(kinds, operands);
                 run_accepted(machine.accept_table(&table).map(|()| table), machine, *budget)
             }
+            Case::Value { machine } => value(machine),
             Case::Report { text, sheet } => printed(&tool::report(text, sheet)),
         }
     }
@@ -257,9 +283,9 @@ impl Case {
                 Program::Text(text) => library::read_program(*setting, text, out),
                 Program::List(list) => library::write_program(*setting, list, out),
             }),
-            Case::Translate { setting, program, lent } => bytes(*lent, &|out| match program {
-                Program::Text(text) => library::translate(*setting, text, out),
-                Program::List(list) => library::translate_list(*setting, list, out),
+            Case::Translate { setting, form, program, lent } => bytes(*lent, &|out| match program {
+                Program::Text(text) => library::translate(*setting, *form, text, out),
+                Program::List(list) => library::translate_list(*setting, *form, list, out),
             }),
             Case::RunSource { setting, program, state, budget } => {
                 let mut memory = state.clone();
@@ -277,6 +303,7 @@ impl Case {
             Case::WriteWord { kinds, operands, lent } => bytes(*lent, &|out| library::write_word(kinds, operands, out)),
             Case::RunWord { word, machine, budget } => run(machine, Code::Word(word), *budget),
             Case::RunTable { kinds, operands, machine, budget } => run(machine, Code::Table(kinds, operands), *budget),
+            Case::Value { machine } => Outcome { answer: library::value(machine), memory: memory(machine) },
             Case::Report { text, sheet } => printed(&tool.run(text, sheet)),
         }
     }
@@ -287,8 +314,10 @@ impl Case {
             Case::Convert { setting, program, lent } => {
                 Box::new(with_less(*setting, program, *lent).map(|(setting, program, lent)| Case::Convert { setting, program, lent }))
             }
-            Case::Translate { setting, program, lent } => {
-                Box::new(with_less(*setting, program, *lent).map(|(setting, program, lent)| Case::Translate { setting, program, lent }))
+            Case::Translate { setting, form, program, lent } => {
+                let with = |form| move |(setting, program, lent): (u32, Program, usize)| Case::Translate { setting, form, program, lent };
+                let forms = less(*form as usize).map(move |form| with(form as u32)((*setting, program.clone(), *lent)));
+                Box::new(with_less(*setting, program, *lent).map(with(*form)).chain(forms))
             }
             Case::RunSource { setting, program, state, budget } => {
                 let calls = with_less(*setting, program, *budget as usize);
@@ -325,6 +354,7 @@ impl Case {
                 let budgets = less(*budget as usize).map(move |b| with(kinds, operands, machine, b as u32));
                 Box::new(tables.chain(operands_less).chain(machines).chain(budgets))
             }
+            Case::Value { machine } => Box::new(emptier(machine).into_iter().map(|machine| Case::Value { machine })),
             Case::Report { text, sheet } => {
                 let texts = shorter(text).map(|text| Case::Report { text, sheet: sheet.clone() });
                 Box::new(texts.chain(shorter(sheet).map(|sheet| Case::Report { text: text.clone(), sheet })))

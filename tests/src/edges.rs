@@ -4,7 +4,7 @@ use crate::machine::{self, Machine};
 use crate::program::{self, list, read, variables, Command, Kind, Setting};
 use crate::source::{self, State};
 use crate::tool::WORD_BYTES;
-use crate::translation::translate;
+use crate::translation::{translate, Form};
 use crate::word::{spell, INSTRUCTIONS, SYMBOLS};
 
 /// Indices at the limit and where numbers of 8, 32 or 64 bits start anew.
@@ -57,6 +57,9 @@ pub const NEARLY: [&str; 40] = [
 
 /// Numbers of a setting that count as LOOP-only; some are 0 in their last 8, 16 or 31 bits.
 pub const OTHER_SETTINGS: [u32; 7] = [2, 7, 255, 256, 65_536, 1 << 31, u32::MAX];
+
+/// Numbers of a form that count as plain; some are the tidy form's in their last 8, 16 or 31 bits.
+pub const OTHER_FORMS: [u32; 8] = [2, 3, 255, 256, 257, 65_537, (1 << 31) + 1, u32::MAX];
 
 /// Lines that rule 20 or a rule beside it turns down, and some that none does, as text and as numbers.
 const BESIDE_20: [(&str, [u8; 3]); 14] = [
@@ -122,7 +125,7 @@ fn nests() -> Vec<Vec<Command>> {
 
 /// Accepted programs whose words are as long as the run tool's buffer, or nearly, or longer.
 pub fn long_words() -> Vec<Vec<Command>> {
-    let symbols = |commands: &[Command]| spell(&translate(commands)).len();
+    let symbols = |commands: &[Command]| spell(&translate(Form::Plain, commands)).len();
     let to = |length: usize| {
         let mut commands = Vec::new();
         while symbols(&commands) + 300 < length {
@@ -249,7 +252,10 @@ pub fn words() -> Vec<Vec<u8>> {
     let mut late = ones(most - 1, 1);
     late[most - 1] = b'2';
     found.push(late);
-    found.extend(SAMPLES.iter().filter_map(|(text, _)| Some(spell(&translate(&read(Setting::Any, text).ok()?)))));
+    for (text, _) in SAMPLES {
+        let commands = read(Setting::Any, text).expect("a sample is accepted");
+        found.extend([Form::Plain, Form::Tidy].map(|form| spell(&translate(form, &commands))));
+    }
     found
 }
 
@@ -302,6 +308,24 @@ pub fn machines() -> Vec<Machine> {
     }
     found.push(Machine { lengths: vec![0; 4], ..good.clone() });
     found.push(Machine { store: vec![0; 13], ..good });
+    found
+}
+
+/// Machines as a halted word may leave them: something in register 1 or nothing, and something in one other register or in none.
+pub fn left_over() -> Vec<Machine> {
+    let mut found = Vec::new();
+    for (registers, capacity) in [1, 2, 3, 19, machine::REGISTERS].into_iter().flat_map(|r| [1, 3, machine::CAPACITY].map(|c| (r, c))) {
+        let contents = [b"".to_vec(), b"1".to_vec(), b"#".to_vec(), [b"1".repeat(capacity - 1), b"#".to_vec()].concat()];
+        for (first, other) in contents.iter().flat_map(|first| contents.iter().map(move |other| (first, other))) {
+            for at in 1..registers.max(2) {
+                let mut all = vec![first.clone()];
+                all.resize(at, Vec::new());
+                all.push(other.clone());
+                all.truncate(registers);
+                found.push(Machine::fresh(registers, capacity, &all));
+            }
+        }
+    }
     found
 }
 

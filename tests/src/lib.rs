@@ -1,5 +1,5 @@
-//! The twin: document 01 and request 1 of document 02 once more in plain Rust, separate code, written from documents 01 and 02 by the same
-//! hand as the definitions and after them. The library is held against it.
+//! The twin: document 01 and requests 1 and 2 of document 02 once more in plain Rust, separate code, written from documents 01 and 02 by
+//! the same hand as the definitions and after them. The library is held against it.
 
 pub mod believed;
 pub mod cases;
@@ -47,10 +47,11 @@ impl End {
     }
 }
 
-/// What comes of a call: its two counts, or how a run ended and its steps, or a refusal.
+/// What comes of a call: its two counts, or how a run ended and its steps, or that a value is untidy, or a refusal.
 #[derive(Clone, Copy, PartialEq, Eq, Debug)]
 pub enum Answer {
     Done { high: u32, low: u32 },
     Ended(End, u32),
+    Untidy,
     Refused(Refusal),
 }

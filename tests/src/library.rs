@@ -10,8 +10,8 @@ use std::{env, fs, process};
 extern "C" {
     fn mudzkvopi_read_program(setting: u32, text: *const u8, text_len: usize, list: *mut u8, list_len: usize) -> u64;
     fn mudzkvopi_write_program(setting: u32, list: *const u8, list_len: usize, text: *mut u8, text_len: usize) -> u64;
-    fn mudzkvopi_translate(setting: u32, text: *const u8, text_len: usize, word: *mut u8, word_len: usize) -> u64;
-    fn mudzkvopi_translate_list(setting: u32, list: *const u8, list_len: usize, word: *mut u8, word_len: usize) -> u64;
+    fn mudzkvopi_translate(setting: u32, form: u32, text: *const u8, text_len: usize, word: *mut u8, word_len: usize) -> u64;
+    fn mudzkvopi_translate_list(setting: u32, form: u32, list: *const u8, list_len: usize, word: *mut u8, word_len: usize) -> u64;
     fn mudzkvopi_run_source(setting: u32, text: *const u8, text_len: usize, state: *mut u32, state_len: usize, budget: u32) -> u64;
     fn mudzkvopi_run_source_list(setting: u32, list: *const u8, list_len: usize, state: *mut u32, state_len: usize, budget: u32) -> u64;
     fn mudzkvopi_read_word(
@@ -58,6 +58,7 @@ extern "C" {
         operands_len: usize,
         budget: u32,
     ) -> u64;
+    fn mudzkvopi_value(registers: u32, capacity: u32, store: *const u8, store_len: usize, lengths: *const u16, lengths_len: usize) -> u64;
 }
 
 fn unpack(packed: u64) -> Answer {
@@ -69,6 +70,10 @@ fn unpack(packed: u64) -> Answer {
         2 => Answer::Ended(End::Strayed, low),
         3 => Answer::Ended(End::Spent, low),
         4 => Answer::Ended(End::Full, low),
+        5 => {
+            assert_eq!((high, low), (0, 0), "bits that are not named are 0");
+            Answer::Untidy
+        }
         _ => Answer::Refused(Refusal { number: high, place: low as usize }),
     }
 }
@@ -83,12 +88,12 @@ pub fn write_program(setting: u32, list: &[u8], text: &mut [u8]) -> Answer {
     unpack(unsafe { mudzkvopi_write_program(setting, list.as_ptr(), list.len(), text.as_mut_ptr(), text.len()) })
 }
 
-pub fn translate(setting: u32, text: &[u8], word: &mut [u8]) -> Answer {
-    unpack(unsafe { mudzkvopi_translate(setting, text.as_ptr(), text.len(), word.as_mut_ptr(), word.len()) })
+pub fn translate(setting: u32, form: u32, text: &[u8], word: &mut [u8]) -> Answer {
+    unpack(unsafe { mudzkvopi_translate(setting, form, text.as_ptr(), text.len(), word.as_mut_ptr(), word.len()) })
 }
 
-pub fn translate_list(setting: u32, list: &[u8], word: &mut [u8]) -> Answer {
-    unpack(unsafe { mudzkvopi_translate_list(setting, list.as_ptr(), list.len(), word.as_mut_ptr(), word.len()) })
+pub fn translate_list(setting: u32, form: u32, list: &[u8], word: &mut [u8]) -> Answer {
+    unpack(unsafe { mudzkvopi_translate_list(setting, form, list.as_ptr(), list.len(), word.as_mut_ptr(), word.len()) })
 }
 
 pub fn run_source(setting: u32, text: &[u8], state: &mut [u32], budget: u32) -> Answer {
@@ -132,6 +137,12 @@ pub fn run(machine: &mut Machine, code: Code, budget: u32) -> Answer {
             }
         }
     })
+}
+
+pub fn value(machine: &Machine) -> Answer {
+    let Machine { registers, capacity, store, lengths, .. } = machine;
+    let (registers, capacity) = (*registers as u32, *capacity as u32);
+    unpack(unsafe { mudzkvopi_value(registers, capacity, store.as_ptr(), store.len(), lengths.as_ptr(), lengths.len()) })
 }
 
 /// The run tool that RUN_TOOL names, and a folder for its files, which goes when this does.

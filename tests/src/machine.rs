@@ -50,6 +50,12 @@ impl Machine {
         }
     }
 
+    /// The value of a halted word: what register 1 holds, "only when every register but the first is empty"; otherwise it is untidy, and
+    /// there is none.
+    pub fn value(&self) -> Option<&[u8]> {
+        (2..=self.registers).all(|r| self.register(r).is_empty()).then(|| self.register(1))
+    }
+
     /// The instructions of a word that is to be run here, by rules 10 to 15.
     pub fn accept(&self, word: &[u8]) -> Result<Vec<Instruction>, Refusal> {
         self.check()?;

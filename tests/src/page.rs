@@ -1,10 +1,10 @@
 //! The examples of docs/REFUSALS.md and docs/STUDENTS.md, read from the pages themselves, as the cases that try them.
 
-use crate::cases::{Case, Program, ANY, LOOP_ONLY};
+use crate::cases::{Case, Program, ANY, LOOP_ONLY, PLAIN, TIDY};
 use crate::machine::{Machine, REGISTERS};
 use crate::program::Setting;
 use crate::source::State;
-use crate::Refusal;
+use crate::{Answer, Refusal};
 
 /// A line of a block that is tried: what it is about, its texts and numbers in order, and the answer.
 #[derive(Debug)]
@@ -14,7 +14,7 @@ pub struct Example {
     pub texts: Vec<Vec<u8>>,
     /// The numbers before the first text, after it, and so on; a `/` starts a new group too.
     pub numbers: Vec<Vec<u32>>,
-    pub answer: Refusal,
+    pub answer: Answer,
 }
 
 /// A quoted text with the escapes `\n`, `\r`, `\t`, `\0` and `\BOM`, the byte-order mark; and what follows it.
@@ -32,12 +32,20 @@ fn times(text: &str) -> (usize, &str) {
     (count.parse().expect("a count"), rest)
 }
 
+/// `untidy`, `length` and a value's, or the number and place of a refusal; what is said of the example may stand behind it.
+fn answer(text: &str) -> Answer {
+    let mut words = text.split_whitespace();
+    let first = words.next().expect("an answer");
+    let mut number = || words.next().and_then(|n| n.parse().ok()).expect("a number");
+    match first {
+        "untidy" => Answer::Untidy,
+        "length" => Answer::Done { high: 0, low: number() },
+        rule => Answer::Refused(Refusal { number: rule.parse().expect("a rule"), place: number() as usize }),
+    }
+}
+
 fn example(line: &str) -> Example {
-    let (given, answer) = line.split_once(" -> ").expect("an answer");
-    let mut answer = answer.split_whitespace();
-    let number = answer.next().and_then(|n| n.parse().ok()).expect("a number");
-    let place = answer.next().and_then(|n| n.parse().ok()).expect("a place, and behind it what is said of the example");
-    let answer = Refusal { number, place };
+    let (given, told) = line.split_once(" -> ").expect("an answer");
     let (kind, mut rest) = given.split_once(' ').unwrap_or((given, ""));
     let mut texts: Vec<Vec<u8>> = Vec::new();
     let mut numbers = vec![Vec::new()];
@@ -67,7 +75,7 @@ fn example(line: &str) -> Example {
             }
         }
     }
-    Example { line: line.into(), kind: kind.into(), texts, numbers, answer }
+    Example { line: line.into(), kind: kind.into(), texts, numbers, answer: answer(told) }
 }
 
 /// All examples of the page.
@@ -85,11 +93,12 @@ pub fn examples(page: &str) -> Vec<Example> {
     found
 }
 
-/// Every call that is given a program.
+/// Every call that is given a program, and translation in both forms.
 fn of_program(setting: u32, program: Program) -> Vec<Case> {
     vec![
         Case::Convert { setting, program: program.clone(), lent: 16_384 },
-        Case::Translate { setting, program: program.clone(), lent: 600_000 },
+        Case::Translate { setting, form: PLAIN, program: program.clone(), lent: 600_000 },
+        Case::Translate { setting, form: TIDY, program: program.clone(), lent: 600_000 },
         Case::RunSource { setting, program, state: State::fresh(1, [0; 32]).numbers().to_vec(), budget: 1 },
     ]
 }
@@ -97,6 +106,12 @@ fn of_program(setting: u32, program: Program) -> Vec<Case> {
 /// The same under the LOOP-only setting, by its number and by two that count as it.
 fn of_lesson(program: Program) -> Vec<Case> {
     [LOOP_ONLY, 2, u32::MAX].into_iter().flat_map(|setting| of_program(setting, program.clone())).collect()
+}
+
+/// A translation of a text, and of its list, into a word of so many bytes.
+fn translations(form: u32, program: Program, lent: u32) -> Vec<Case> {
+    let list = Program::List(program.converted(Setting::Any).expect("an accepted program"));
+    [program, list].map(|program| Case::Translate { setting: ANY, form, program, lent: lent as usize }).to_vec()
 }
 
 /// The kinds and the operands of a table.
@@ -154,7 +169,9 @@ impl Example {
             "memory" => vec![
                 Case::RunWord { word: b"1###".to_vec(), machine: self.machine(), budget: 1 },
                 Case::RunTable { kinds: vec![3], operands: vec![1], machine: self.machine(), budget: 1 },
+                Case::Value { machine: self.machine() },
             ],
+            "value" => vec![Case::Value { machine: self.machine() }],
             "word" => vec![
                 Case::ReadWord { word: text(), kinds: 8_192, operands: 8_192 },
                 Case::RunWord { word: text(), machine: Machine::fresh(REGISTERS, 1, &[]), budget: 1 },
@@ -174,7 +191,8 @@ impl Example {
             }
             "machine" => vec![Case::RunWord { word: text(), machine: Machine::fresh(numbers[0] as usize, 1, &[]), budget: 1 }],
             "sheet" => vec![Case::Report { text: text(), sheet: self.texts[1].clone() }],
-            "translate" => vec![Case::Translate { setting: ANY, program: Program::Text(text()), lent: numbers[0] as usize }],
+            "translate" => translations(PLAIN, Program::Text(text()), numbers[0]),
+            "tidy" => translations(TIDY, Program::Text(text()), numbers[0]),
             other => panic!("{other} is no kind of example"),
         }
     }

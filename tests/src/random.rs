@@ -1,7 +1,7 @@
 //! Cases by chance, the same for the same seed: programs, words, states, sheets, and damage to them.
 
-use crate::cases::{ANY, LOOP_ONLY};
-use crate::edges::{NEARLY, OTHER_SETTINGS};
+use crate::cases::{form_of, ANY, LOOP_ONLY, PLAIN, TIDY};
+use crate::edges::{NEARLY, OTHER_FORMS, OTHER_SETTINGS};
 use crate::machine::{self, Machine};
 use crate::program::{list, variables, write, Command, Kind, Setting, OPEN};
 use crate::source::{self, State};
@@ -106,6 +106,15 @@ impl Random {
             0..=3 => ANY,
             4..=6 => LOOP_ONLY,
             _ => self.pick(&OTHER_SETTINGS),
+        }
+    }
+
+    /// A form likewise: plain, tidy, or once in a while a number that counts as plain.
+    pub fn form(&mut self) -> u32 {
+        match self.below(8) {
+            0..=2 => PLAIN,
+            3..=6 => TIDY,
+            _ => self.pick(&OTHER_FORMS),
         }
     }
 
@@ -271,14 +280,28 @@ impl Random {
         machine
     }
 
-    /// The word of a program, and a machine that starts it, mostly with 1s only in its registers.
+    /// A machine as a halted word may leave it: often something in register 1 alone, or in one more.
+    pub fn left_over(&mut self) -> Machine {
+        let mut machine = self.machine();
+        if machine.check().is_err() || self.once_in(4) {
+            return machine;
+        }
+        let kept = if self.once_in(2) { self.below(machine.registers) } else { 0 };
+        for at in (1..machine.registers).filter(|&at| at != kept) {
+            machine.store[at * machine.capacity..(at + 1) * machine.capacity].fill(0);
+            machine.lengths[at] = 0;
+        }
+        machine
+    }
+
+    /// The word of a program, in one of its forms, and a machine that starts it, mostly with 1s only in its registers.
     pub fn translated(&mut self) -> (Vec<u8>, Machine) {
         let lines = self.below(14);
         let commands = self.program(Setting::Any, lines, 3);
         let capacity = self.capacity();
         let marks = usize::from(self.once_in(5));
         let contents: Vec<_> = (0..variables(&commands)).map(|_| self.symbols(capacity, marks)).collect();
-        (spell(&translate(&commands)), Machine::fresh(machine::REGISTERS, capacity, &contents))
+        (spell(&translate(form_of(self.form()), &commands)), Machine::fresh(machine::REGISTERS, capacity, &contents))
     }
 
     /// A sheet for a program of `k` variables, damaged or not.

@@ -1,9 +1,9 @@
-//! What the run tool and the label tool print. Both are outside the LOOP-only setting.
+//! What the run tool and the label tool print. Both are outside the LOOP-only setting, and have the plain word.
 
 use crate::machine::{Machine, REGISTERS};
 use crate::program::{read, variables, Setting};
 use crate::source::{run, State, CAPACITY};
-use crate::translation::translate;
+use crate::translation::{translate, Form};
 use crate::word::spell;
 use crate::{refuse, sheet, Refusal};
 
@@ -15,7 +15,7 @@ fn runs(text: &[u8], sheet: &[u8]) -> Result<String, Refusal> {
     let commands = read(Setting::Any, text)?;
     let k = variables(&commands);
     let rows = sheet::read(sheet, k, u64::from(CAPACITY))?;
-    let word = translate(&commands);
+    let word = translate(Form::Plain, &commands);
     if spell(&word).len() > WORD_BYTES {
         return refuse(19, 0);
     }
@@ -42,7 +42,8 @@ pub fn report(text: &[u8], sheet: &[u8]) -> String {
 
 /// The word of a program's text, on a line.
 pub fn label(text: &[u8]) -> String {
-    printed(read(Setting::Any, text).map(|commands| String::from_utf8_lossy(&spell(&translate(&commands))).into_owned() + "\n"))
+    let word = |commands: Vec<_>| String::from_utf8_lossy(&spell(&translate(Form::Plain, &commands))).into_owned() + "\n";
+    printed(read(Setting::Any, text).map(word))
 }
 
 /// The refusal that a printed text tells of.

@@ -1,8 +1,15 @@
-//! Translation, and the charges.
+//! Translation in its two forms, and the charges.
 
 use crate::program::{variables, Command, Kind};
 use crate::source::State;
 use crate::word::Instruction;
+
+/// Document 01's word, or that word with clears after it (document 02, request 2).
+#[derive(Clone, Copy, PartialEq, Eq, Debug)]
+pub enum Form {
+    Plain,
+    Tidy,
+}
 
 fn cases(a: usize) -> Instruction {
     Instruction { kind: 5, operand: a as u32 }
@@ -20,6 +27,10 @@ fn add(r: usize) -> Instruction {
     Instruction { kind: 1, operand: r as u32 }
 }
 
+fn clear(a: usize) -> [Instruction; 3] {
+    [cases(a), forward(2), backward(2)]
+}
+
 fn spread(a: usize, b: usize, t: usize) -> Vec<Instruction> {
     vec![cases(a), forward(4), add(b), add(t), backward(4), cases(t), forward(3), add(a), backward(3)]
 }
@@ -30,10 +41,7 @@ fn block(commands: &[Command], k: usize, depth: usize, mut at: usize) -> (Vec<In
     let mut code = Vec::new();
     while at < commands.len() {
         match commands[at] {
-            Command::Clear(i) => {
-                let a = i as usize + 1;
-                code.extend([cases(a), forward(2), backward(2)]);
-            }
+            Command::Clear(i) => code.extend(clear(i as usize + 1)),
             Command::Increment(i) => code.push(add(i as usize + 1)),
             Command::Copy { to, from } if to == from => {
                 let a = from as usize + 1;
@@ -41,7 +49,7 @@ fn block(commands: &[Command], k: usize, depth: usize, mut at: usize) -> (Vec<In
             }
             Command::Copy { to, from } => {
                 let (b, a) = (to as usize + 1, from as usize + 1);
-                code.extend([cases(b), forward(2), backward(2)]);
+                code.extend(clear(b));
                 code.extend(spread(a, b, t));
             }
             Command::Open(kind, i) => {
@@ -69,11 +77,20 @@ fn block(commands: &[Command], k: usize, depth: usize, mut at: usize) -> (Vec<In
     (code, at)
 }
 
-/// The word of an accepted program, as its instructions.
-pub fn translate(commands: &[Command]) -> Vec<Instruction> {
+/// The word of an accepted program, as its instructions. In the tidy form "clears of registers 2 to K follow in rising order".
+pub fn translate(form: Form, commands: &[Command]) -> Vec<Instruction> {
+    let k = variables(commands);
     let mut word = vec![forward(1)];
-    word.extend(block(commands, variables(commands), 0, 0).0);
+    word.extend(block(commands, k, 0, 0).0);
+    if form == Form::Tidy {
+        word.extend((2..=k).flat_map(clear));
+    }
     word
+}
+
+/// The steps of the tidy form's clears, each "charged 2v+2 for its content v", by the contents of registers 2 to K after the plain word.
+pub fn tidy_charges<'a>(contents: impl Iterator<Item = &'a [u8]>) -> u64 {
+    contents.map(|content| 2 * content.len() as u64 + 2).sum()
 }
 
 /// The charge of the step that a state is about to do.

@@ -3,7 +3,7 @@
 use twin::machine::Machine;
 use twin::program::{read, variables, Setting};
 use twin::source::{run, State};
-use twin::translation::translate;
+use twin::translation::{translate, Form};
 use twin::word::{self, spell};
 use twin::{edges, tool, End, Refusal};
 
@@ -18,7 +18,7 @@ type Both = (String, (End, u32), (End, u32, i32), String);
 
 fn both(text: &str, capacity: u32, start: &[u32]) -> Both {
     let commands = read(Setting::Any, text.as_bytes()).expect("an accepted program");
-    let table = translate(&commands);
+    let table = translate(Form::Plain, &commands);
     let mut state = State::fresh(capacity, values(start));
     let source = run(&commands, &mut state, 1000);
     let ones: Vec<_> = values(start)[..variables(&commands)].iter().map(|&v| vec![b'1'; v as usize]).collect();

@@ -1,26 +1,38 @@
-//! Demand 3, the claim on full and that of the LOOP-only lesson, tried: programs by chance, their words run by the twin, ends, steps,
-//! registers and charges compared. Where the library is linked the words are those that it translates, else the twin's own.
+//! Demand 3, the claim on full, that of the LOOP-only lesson and that of tidy words, tried: programs by chance, their words run by the
+//! twin, ends, steps, registers, charges and values compared. Where the library is linked the words are those that it translates and the
+//! values those that it tells, else the twin's own.
 
-use twin::cases::{ANY, LOOP_ONLY};
+use twin::cases::{ANY, LOOP_ONLY, PLAIN, TIDY};
 use twin::machine::Machine;
 use twin::program::{read, variables, write, Command, Kind, Setting};
 use twin::random::Random;
 use twin::source::{run, State};
+use twin::translation::tidy_charges;
 use twin::word::Instruction;
-use twin::End;
+use twin::{Answer, End};
 
 #[cfg(not(feature = "library"))]
-fn translated(_setting: u32, commands: &[Command]) -> Vec<Instruction> {
-    twin::translation::translate(commands)
+fn translated(_setting: u32, form: u32, commands: &[Command]) -> Vec<Instruction> {
+    twin::translation::translate(twin::cases::form_of(form), commands)
 }
 
 #[cfg(feature = "library")]
-fn translated(setting: u32, commands: &[Command]) -> Vec<Instruction> {
+fn translated(setting: u32, form: u32, commands: &[Command]) -> Vec<Instruction> {
     let mut word = vec![0; 600_000];
-    let twin::Answer::Done { low, .. } = twin::library::translate(setting, &write(commands), &mut word) else {
+    let Answer::Done { low, .. } = twin::library::translate(setting, form, &write(commands), &mut word) else {
         panic!("{commands:?} is refused")
     };
     twin::word::read(&word[..low as usize]).expect("a word")
+}
+
+#[cfg(not(feature = "library"))]
+fn value(machine: &Machine) -> Answer {
+    twin::cases::Case::Value { machine: machine.clone() }.twin().answer
+}
+
+#[cfg(feature = "library")]
+fn value(machine: &Machine) -> Answer {
+    twin::library::value(machine)
 }
 
 #[test]
@@ -38,7 +50,7 @@ fn source_and_word() {
         let mut state = State::fresh(capacity as u32, values);
         let mut machine = Machine::fresh(64, capacity, &ones);
         let source = run(&commands, &mut state, 3_000);
-        let (end, steps) = machine.run(&translated(ANY, &commands), 300_000);
+        let (end, steps) = machine.run(&translated(ANY, PLAIN, &commands), 300_000);
         assert_ne!(end, End::Strayed);
         if source.end == End::Spent || end == End::Spent {
             continue;
@@ -82,9 +94,51 @@ fn loop_programs_halt() {
             outgrown += 1;
             continue;
         }
-        let (end, steps) = machine.run(&translated(LOOP_ONLY, &commands), 100_000_000);
+        let (end, steps) = machine.run(&translated(LOOP_ONLY, PLAIN, &commands), 100_000_000);
         assert_eq!((end, u64::from(steps)), (End::Halted, 1 + source.charges), "{commands:?} from {values:?}");
         with_loops += usize::from(commands.iter().any(|c| matches!(c, Command::Open(Kind::Loop, _))));
     }
     assert!(with_loops > 1500 && outgrown < 15, "{with_loops} with loops, {outgrown} not tried");
+}
+
+/// From the same start the tidy word ends as the plain word does. Where both halt its steps are the plain word's and the charges of its
+/// clears, which go by the values of X1 to X(K-1), and it has a value, as many 1s as X0; where they are full it has come no further.
+#[test]
+fn tidy_words() {
+    let mut random = Random::new(2);
+    let (mut untidy, mut valued, mut full) = (0, 0, 0);
+    for _ in 0..6000 {
+        let (lines, names) = (random.below(12), 1 + random.below(5));
+        let commands = random.program(Setting::Any, lines, names);
+        let k = variables(&commands);
+        let most = if random.once_in(4) { 1024 } else { 9 };
+        let capacity = 1 + random.below(most);
+        let mut values = [0; 32];
+        values[..k].fill_with(|| random.below(capacity.min(40) + 1) as u32);
+        let ones: Vec<_> = values[..k].iter().map(|&v| vec![b'1'; v as usize]).collect();
+        let mut plain = Machine::fresh(k + 17, capacity, &ones);
+        let (mut tidy, mut state) = (plain.clone(), State::fresh(capacity as u32, values));
+        let source = run(&commands, &mut state, 3_000);
+        let (end, steps) = plain.run(&translated(ANY, PLAIN, &commands), 300_000);
+        if source.end == End::Spent || end == End::Spent {
+            continue;
+        }
+        let (tidy_end, tidy_steps) = tidy.run(&translated(ANY, TIDY, &commands), 400_000);
+        assert_eq!((source.end, end), (tidy_end, tidy_end), "{commands:?} from {values:?} within {capacity}");
+        if end == End::Full {
+            assert_eq!((steps, plain.place), (tidy_steps, tidy.place), "{commands:?} from {values:?} within {capacity}");
+            full += 1;
+            continue;
+        }
+        let charges = tidy_charges((2..=k).map(|r| plain.register(r)));
+        let by_values: u64 = state.values[..k].iter().skip(1).map(|&v| 2 * u64::from(v) + 2).sum();
+        assert_eq!((u64::from(tidy_steps), charges), (u64::from(steps) + charges, by_values), "{commands:?} from {values:?}");
+        let x0 = if k == 0 { 0 } else { state.values[0] };
+        assert_eq!(value(&tidy), Answer::Done { high: 0, low: x0 }, "{commands:?} from {values:?}");
+        assert_eq!(tidy.register(1), vec![b'1'; x0 as usize], "{commands:?} from {values:?}");
+        let clean = state.values[1..].iter().all(|&v| v == 0);
+        assert_eq!(value(&plain), if clean { Answer::Done { high: 0, low: x0 } } else { Answer::Untidy }, "{commands:?} from {values:?}");
+        *(if clean { &mut valued } else { &mut untidy }) += 1;
+    }
+    assert!(untidy > 1500 && valued > 500 && full > 100, "plain words: {untidy} untidy, {valued} with a value, {full} full");
 }

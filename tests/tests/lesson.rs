@@ -1,6 +1,6 @@
 //! The LOOP-only lesson of document 02: rule 20 among the others, what becomes of lent memory, and who is accepted; on the twin.
 
-use twin::cases::{Case, Program, ANY, LOOP_ONLY};
+use twin::cases::{Case, Program, ANY, LOOP_ONLY, PLAIN, TIDY};
 use twin::edges::{beside_20, OTHER_SETTINGS};
 use twin::program::{command, read, read_list, Command, Kind, Setting};
 use twin::random::Random;
@@ -84,7 +84,8 @@ fn before_19_and_9() {
     let of_program = |setting: u32, program: Program| {
         [
             (19, Case::Convert { setting, program: program.clone(), lent: 5 }),
-            (19, Case::Translate { setting, program: program.clone(), lent: 5 }),
+            (19, Case::Translate { setting, form: PLAIN, program: program.clone(), lent: 5 }),
+            (19, Case::Translate { setting, form: TIDY, program: program.clone(), lent: 5 }),
             (9, Case::RunSource { setting, program: program.clone(), state: state.clone(), budget: 9 }),
             (9, Case::RunSource { setting, program, state: state[..5].to_vec(), budget: 9 }),
         ]

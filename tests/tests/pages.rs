@@ -3,7 +3,7 @@
 use std::fs;
 use std::path::Path;
 use twin::page::{self, Example};
-use twin::{believed, tool, Answer};
+use twin::{believed, tool, Answer, Refusal};
 
 fn at_root(name: &str) -> std::path::PathBuf {
     Path::new(env!("CARGO_MANIFEST_DIR")).join("..").join(name)
@@ -13,10 +13,16 @@ fn page(name: &str) -> String {
     fs::read_to_string(at_root(name)).expect("the page")
 }
 
+const REFUSED_19: Answer = Answer::Refused(Refusal { number: 19, place: 0 });
+
 fn examples() -> Vec<Example> {
     let mut examples = page::examples(&page("docs/REFUSALS.md"));
     for rule in 1..=20 {
-        assert!(examples.iter().any(|e| e.answer.number == rule), "the page has an example of {rule}");
+        let of_rule = |e: &Example| matches!(e.answer, Answer::Refused(Refusal { number, .. }) if number == rule);
+        assert!(examples.iter().any(of_rule), "the page has an example of {rule}");
+    }
+    for (kind, answer) in [("value", Answer::Untidy), ("value", Answer::Done { high: 0, low: 0 }), ("tidy", REFUSED_19)] {
+        assert!(examples.iter().any(|e| e.kind == kind && e.answer == answer), "the page has an example of {kind}: {answer:?}");
     }
     examples.extend(page::examples(&page("docs/STUDENTS.md")));
     examples
@@ -26,7 +32,7 @@ fn examples() -> Vec<Example> {
 fn refusals() {
     for example in examples() {
         for case in example.cases() {
-            assert_eq!(case.twin().answer, Answer::Refused(example.answer), "{}, to {}", example.line, case.name());
+            assert_eq!(case.twin().answer, example.answer, "{}, to {}", example.line, case.name());
         }
     }
 }

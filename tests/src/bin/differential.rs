@@ -6,12 +6,12 @@ use std::collections::BTreeMap;
 use std::env;
 use std::process::exit;
 use std::time::{Duration, Instant};
-use twin::cases::{setting_of, Case, Program, ANY, LOOP_ONLY};
+use twin::cases::{form_of, setting_of, Case, Program, ANY, LOOP_ONLY, PLAIN, TIDY};
 use twin::library::RunTool;
 use twin::machine::Machine;
 use twin::program::{list, read, variables, write, Setting};
 use twin::random::Random;
-use twin::translation::translate;
+use twin::translation::{translate, Form};
 use twin::word::{self, spell, Instruction};
 use twin::{edges, source, Answer, End};
 
@@ -19,7 +19,7 @@ use twin::{edges, source, Answer, End};
 const LONGEST: u32 = 20_000;
 
 /// The answers of each call, every one of which must come `LEAST` times.
-const ANSWERS: [(&str, &str); 11] = [
+const ANSWERS: [(&str, &str); 12] = [
     ("read a text", "done 1 2 3 4 5 20 6 7 8 19"),
     ("write a list", "done 3 4 5 20 6 7 8 19"),
     ("translate a text", "done 1 2 3 4 5 20 6 7 8 19"),
@@ -30,6 +30,7 @@ const ANSWERS: [(&str, &str); 11] = [
     ("write a word", "done 11 13 14 19"),
     ("run a word", "halted strayed spent full 10 11 12 13 14 15"),
     ("run a table", "halted strayed spent full 10 11 13 14 15"),
+    ("value", "done untidy 10"),
     ("the run tool", "done 1 2 3 4 5 6 7 8 16 17 18 19"),
 ];
 const LEAST: u64 = 5;
@@ -58,6 +59,7 @@ impl Tally {
         let answer = match twin.answer {
             Answer::Done { .. } => "done".into(),
             Answer::Ended(end, _) => end.name().into(),
+            Answer::Untidy => "untidy".into(),
             Answer::Refused(r) => r.number.to_string(),
         };
         *self.counts.entry((case.name(), answer)).or_default() += 1;
@@ -89,17 +91,35 @@ impl Tally {
     }
 }
 
+/// The symbols of a program's word in a form, or 9 if it has none.
+fn symbols(program: &Program, form: Form) -> usize {
+    program.read(Setting::Any).map_or(9, |c| spell(&translate(form, &c)).len())
+}
+
+/// A translation in each form, and in one by a number that is neither's, with outputs of the length that each form's word has, of one less,
+/// and of the most that `longest` allows.
+fn translation_edges(tally: &mut Tally, setting: u32, program: &Program, longest: usize) {
+    let (plain, tidy) = (symbols(program, Form::Plain), symbols(program, Form::Tidy));
+    let mut lents = vec![plain - 1, plain, tidy - 1, tidy];
+    lents.dedup();
+    for form in [PLAIN, TIDY, u32::MAX] {
+        for &lent in &lents {
+            tally.hold(Case::Translate { setting, form, program: program.clone(), lent });
+        }
+    }
+    for form in [PLAIN, TIDY] {
+        tally.hold(Case::Translate { setting, form, program: program.clone(), lent: longest });
+    }
+}
+
 /// Each call that is given a program, with outputs of the length that its result has outside the LOOP-only setting, of one less, and of
 /// the most that `longest` allows; and with a good state and a bad one.
 fn program_edges(tally: &mut Tally, setting: u32, program: &Program, longest: usize) {
     let converted = program.converted(Setting::Any).map_or(9, |c| c.len());
-    let symbols = program.read(Setting::Any).map_or(9, |c| spell(&translate(&c)).len());
     for lent in [converted.saturating_sub(1), converted, longest.min(16_384)] {
         tally.hold(Case::Convert { setting, program: program.clone(), lent });
     }
-    for lent in [symbols - 1, symbols, longest] {
-        tally.hold(Case::Translate { setting, program: program.clone(), lent });
-    }
+    translation_edges(tally, setting, program, longest);
     for capacity in [5, 0] {
         let state = source::State::fresh(capacity, [0; 32]).numbers().to_vec();
         tally.hold(Case::RunSource { setting, program: program.clone(), state, budget: 100 });
@@ -130,6 +150,20 @@ fn setting_edges(tally: &mut Tally) {
     }
 }
 
+/// Each sample under each number of a form that counts as plain, with outputs of every length up to past the tidy word's.
+fn form_edges(tally: &mut Tally) {
+    for (text, _) in edges::SAMPLES {
+        let list = Program::Text(text.into()).converted(Setting::Any).expect("a sample is accepted");
+        for program in [Program::Text(text.into()), Program::List(list)] {
+            for form in [PLAIN, TIDY].into_iter().chain(edges::OTHER_FORMS) {
+                for lent in 0..symbols(&program, Form::Tidy) + 2 {
+                    tally.hold(Case::Translate { setting: ANY, form, program: program.clone(), lent });
+                }
+            }
+        }
+    }
+}
+
 /// Kinds and operands of a table.
 fn numbers(table: &[Instruction]) -> (Vec<u8>, Vec<u32>) {
     (table.iter().map(|i| i.kind).collect(), table.iter().map(|i| i.operand).collect())
@@ -142,8 +176,27 @@ fn run_both(tally: &mut Tally, table: &[Instruction], machine: &Machine, budget:
     tally.hold(Case::RunTable { kinds, operands, machine: machine.clone(), budget });
 }
 
-/// A sample program from every state at a limit; its source and its word with every budget up to past the end, and every count of steps
-/// near the largest.
+/// A word from a fresh machine with every budget up to past its end, every count of steps near the largest, and from every place; and the
+/// value of what it leaves.
+fn word_edges(tally: &mut Tally, table: &[Instruction], machine: &Machine) {
+    let mut left = machine.clone();
+    let ends = left.run(table, 200).1;
+    tally.hold(Case::Value { machine: left });
+    for n in 0..=ends + 2 {
+        for (steps, budget) in [(0, n), (u32::MAX - n, 200), (u32::MAX - n, ends), (u32::MAX - ends, n)] {
+            run_both(tally, table, &Machine { steps, ..machine.clone() }, budget);
+        }
+    }
+    let last = table.len() as i32;
+    for place in [i32::MIN, i32::MIN + 1, -1, last + 2, i32::MAX - 1, i32::MAX].into_iter().chain(0..=last + 1) {
+        for budget in [0, 1, 2, 200] {
+            run_both(tally, table, &Machine { place, ..machine.clone() }, budget);
+        }
+    }
+}
+
+/// A sample program from every state at a limit; its source with every budget up to past the end, and every count of steps near the
+/// largest; and its word in both forms.
 fn sample_edges(tally: &mut Tally, text: &[u8], start: &[u32]) {
     let commands = read(Setting::Any, text).expect("a sample is accepted");
     for state in edges::states(&commands, start) {
@@ -153,25 +206,15 @@ fn sample_edges(tally: &mut Tally, text: &[u8], start: &[u32]) {
         }
     }
     let (state, machine) = edges::fresh(&commands, start);
-    let table = translate(&commands);
     let ends = source::run(&commands, &mut state.clone(), 200).steps;
-    let word_ends = machine.clone().run(&table, 200).1;
     for n in 0..=ends + 2 {
         for (steps, budget) in [(0, n), (u32::MAX - n, 200), (u32::MAX - n, ends), (u32::MAX - ends, n)] {
             let state = source::State { steps, ..state.clone() }.numbers().to_vec();
             tally.hold(Case::RunSource { setting: ANY, program: Program::Text(text.into()), state, budget });
         }
     }
-    for n in 0..=word_ends + 2 {
-        for (steps, budget) in [(0, n), (u32::MAX - n, 200), (u32::MAX - n, word_ends), (u32::MAX - word_ends, n)] {
-            run_both(tally, &table, &Machine { steps, ..machine.clone() }, budget);
-        }
-    }
-    let last = table.len() as i32;
-    for place in [i32::MIN, i32::MIN + 1, -1, last + 2, i32::MAX - 1, i32::MAX].into_iter().chain(0..=last + 1) {
-        for budget in [0, 1, 2, 200] {
-            run_both(tally, &table, &Machine { place, ..machine.clone() }, budget);
-        }
+    for form in [Form::Plain, Form::Tidy] {
+        word_edges(tally, &translate(form, &commands), &machine);
     }
 }
 
@@ -189,6 +232,7 @@ fn at_limits(tally: &mut Tally) {
         }
     }
     setting_edges(tally);
+    form_edges(tally);
     for (text, start) in edges::SAMPLES {
         sample_edges(tally, text, start);
     }
@@ -210,7 +254,11 @@ fn at_limits(tally: &mut Tally) {
             tally.hold(Case::RunTable { kinds: kinds.clone(), operands: operands.clone(), machine, budget });
         }
     }
+    for machine in edges::left_over() {
+        tally.hold(Case::Value { machine });
+    }
     for machine in edges::machines() {
+        tally.hold(Case::Value { machine: machine.clone() });
         for word in [&b"1#"[..], b"1###", b"111#####1##11#", b"", b"1111#"] {
             tally.hold(Case::RunWord { word: word.to_vec(), machine: machine.clone(), budget: 9 });
         }
@@ -322,8 +370,9 @@ fn program_cases(tally: &mut Tally, random: &mut Random) {
     for program in [Program::Text(random.text(written)), Program::List(random.list(written))] {
         let length = program.converted(Setting::Any).map_or(9, |c| c.len());
         tally.hold(Case::Convert { setting, program: program.clone(), lent: lent(random, length) });
-        let length = program.read(Setting::Any).map_or(9, |c| spell(&translate(&c)).len());
-        tally.hold(Case::Translate { setting, program: program.clone(), lent: lent(random, length) });
+        let (form, sized) = (random.form(), random.form());
+        let length = symbols(&program, form_of(if random.once_in(4) { sized } else { form }));
+        tally.hold(Case::Translate { setting, form, program: program.clone(), lent: lent(random, length) });
         tally.hold(source_case(random, setting, program));
     }
 }
@@ -341,6 +390,7 @@ fn by_chance(tally: &mut Tally, random: &mut Random) {
     tally.hold(word_case(random, word, machine));
     tally.hold(written_case(random));
     tally.hold(table_case(random));
+    tally.hold(Case::Value { machine: random.left_over() });
 }
 
 fn report_case(random: &mut Random) -> Case {

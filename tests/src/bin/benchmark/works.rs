@@ -6,12 +6,12 @@ use std::path::PathBuf;
 use std::process::{Command as Process, Stdio};
 use std::rc::Rc;
 use std::{env, fs};
-use twin::cases::{Program, ANY};
+use twin::cases::{Program, ANY, PLAIN};
 use twin::library::{self, Code};
 use twin::machine::Machine;
 use twin::program::{self, read, read_list, Command, Kind, Setting};
 use twin::source::{check, run, State};
-use twin::translation::translate;
+use twin::translation::{translate, Form};
 use twin::word::{self, spell, Instruction};
 
 pub const MULTIPLY: &[u8] = b"X0 <- 0\nloop X1\nloop X2\nX0 <- X0 + 1\nendloop X2\nendloop X1\n";
@@ -35,7 +35,7 @@ pub fn as_list(text: &[u8]) -> Program {
 }
 
 pub fn word_of(text: &[u8]) -> Vec<u8> {
-    spell(&translate(&read(Setting::Any, text).expect("an accepted program")))
+    spell(&translate(Form::Plain, &read(Setting::Any, text).expect("an accepted program")))
 }
 
 /// As many copies in 16 loops as make about so many symbols.
@@ -95,12 +95,12 @@ pub fn translating(name: &str, size: usize, program: Program) -> Work {
         size,
         move || {
             black_box(match black_box(&program) {
-                Program::Text(text) => library::translate(ANY, text, &mut word),
-                Program::List(list) => library::translate_list(ANY, list, &mut word),
+                Program::Text(text) => library::translate(ANY, PLAIN, text, &mut word),
+                Program::List(list) => library::translate_list(ANY, PLAIN, list, &mut word),
             });
         },
         move || {
-            black_box(black_box(&again).read(Setting::Any).map(|c| spell(&translate(&c)))).ok();
+            black_box(black_box(&again).read(Setting::Any).map(|c| spell(&translate(Form::Plain, &c)))).ok();
         },
     )
 }
