@@ -1,7 +1,8 @@
 /*
- * mudzkvopi.h: LOOP/WHILE programs, their 1# words, and runs of both. Version 2.
+ * mudzkvopi.h: LOOP/WHILE programs, their 1# words, and runs of both. Version 3.
  *
- * A host that translates a program and runs its word (the tests compile and run it):
+ * A host that translates a program, runs its word and shows its value (the tests compile and run
+ * it):
  *
  *     #include <stdio.h>
  *     #include <string.h>
@@ -14,8 +15,8 @@
  *         uint16_t lengths[19] = { 0, 3 };            // X1 is register 2, and is to be 3
  *         int32_t place = 1;
  *         uint32_t steps = 0;
- *         uint64_t r = mudzkvopi_translate(
- *             MUDZKVOPI_ANY, (const uint8_t *)text, strlen(text), word, sizeof word);
+ *         uint64_t r = mudzkvopi_translate(MUDZKVOPI_ANY, MUDZKVOPI_TIDY, (const uint8_t *)text,
+ *                                          strlen(text), word, sizeof word);
  *
  *         if (MUDZKVOPI_WHAT(r) == MUDZKVOPI_REFUSED) {
  *             printf("refused %u %u\n", MUDZKVOPI_RULE(r), MUDZKVOPI_PLACE(r));
@@ -24,13 +25,20 @@
  *         memset(store + 64, '1', 3);                 // "111" in register 2
  *         r = mudzkvopi_run_word(19, 64, store, sizeof store, lengths, 19, &place, &steps,
  *                                word, MUDZKVOPI_LOW(r), 1000000);
- *         printf("%s after %u steps, X0 is %u\n",
- *                MUDZKVOPI_WHAT(r) == MUDZKVOPI_HALTED ? "halted" : "stopped",
- *                MUDZKVOPI_STEPS(r), (unsigned)lengths[0]);
+ *         if (MUDZKVOPI_WHAT(r) != MUDZKVOPI_HALTED) {
+ *             printf("stopped after %u steps\n", MUDZKVOPI_STEPS(r));
+ *             return 1;
+ *         }
+ *         printf("halted after %u steps, ", MUDZKVOPI_STEPS(r));
+ *         r = mudzkvopi_value(19, 64, store, sizeof store, lengths, 19);
+ *         if (MUDZKVOPI_WHAT(r) == MUDZKVOPI_DONE)
+ *             printf("value %u\n", MUDZKVOPI_LOW(r));
+ *         else
+ *             printf("untidy\n");
  *         return 0;
  *     }
  *
- * It prints: halted after 37 steps, X0 is 3
+ * It prints: halted after 45 steps, value 3
  *
  * Link with libhost.a (x86-64, C99 or C++), which itself needs memcpy and memset and nothing else.
  * Every call checks what it is given, ends, and is proved to answer by the definitions in
@@ -45,7 +53,8 @@
  * result are as they were.
  *
  * In 64 KB. A program of K variables (HIGH of mudzkvopi_read_program) has a word that names no
- * register above K + 17 (claim WordsFit), so a machine of that many is enough for it. In bytes:
+ * register above K + 17, in either form (claims WordsFit and TidyWordsFit), so a machine of that
+ * many is enough for it. In bytes:
  *
  *     a text of n bytes, or a word of n symbols          n
  *     a program's list of n commands                     3 * n
@@ -68,7 +77,7 @@
 extern "C" {
 #endif
 
-#define MUDZKVOPI_VERSION 2
+#define MUDZKVOPI_VERSION 3
 
 /*
  * Stack, in bytes, for each call. These are measured, not proved: tests/stack.c calls each with the
@@ -85,6 +94,7 @@ extern "C" {
 #define MUDZKVOPI_STACK_WRITE_WORD 1024
 #define MUDZKVOPI_STACK_RUN_WORD 45056
 #define MUDZKVOPI_STACK_RUN_TABLE 2560
+#define MUDZKVOPI_STACK_VALUE 1024
 
 /*
  * Results. A call answers with one number: bits 56 to 63 say what came of it, and the other bits go
@@ -93,6 +103,7 @@ extern "C" {
  *   MUDZKVOPI_DONE      bits 32 to 47: MUDZKVOPI_HIGH, bits 0 to 31: MUDZKVOPI_LOW, two counts
  *                       that each call below names
  *   HALTED .. FULL      a run ended so; bits 0 to 31: MUDZKVOPI_STEPS, the steps of this call
+ *   MUDZKVOPI_UNTIDY    there is no value; no other bits
  *   MUDZKVOPI_REFUSED   bits 32 to 47: MUDZKVOPI_RULE, the number of the rule, bits 0 to 31:
  *                       MUDZKVOPI_PLACE, where it applies
  *
@@ -112,6 +123,7 @@ enum mudzkvopi_what {
     MUDZKVOPI_SPENT = 3,   /* the budget is used up, or the count of steps stands at 4294967295 */
     MUDZKVOPI_FULL = 4,    /* the next step, which isn't done, would put more than the capacity into
                               a register or a variable */
+    MUDZKVOPI_UNTIDY = 5,  /* mudzkvopi_value only: a register other than the first isn't empty */
     MUDZKVOPI_REFUSED = 255
 };
 
@@ -199,13 +211,28 @@ uint64_t mudzkvopi_write_program(
     uint32_t setting, const uint8_t *list, size_t list_len, uint8_t *text, size_t text_len);
 
 /*
- * Translates a program into its word. DONE: HIGH the instructions, LOW the symbols. Rules 1, 2, 3;
- * each line by 4, 5, 20, 6, 7; 8; 19. A list: 3; each line by 4, 5, 20, 6, 7; 8; 19.
+ * The form of a program's word. When the plain word has halted, X1 and the later variables may
+ * still hold something, and then it has no value (see mudzkvopi_value). The tidy word is the plain
+ * word with clears of registers 2 to K behind it, in rising order; with K of 0 or 1 it is the plain
+ * word. On unlimited registers it halts exactly when its program does, after the plain word's steps
+ * and 2 * v + 2 for each cleared register that held v, and then always has a value: as many '1' as
+ * X0, none if K is 0 (claim TidyDemandOfPrograms). A number other than these two counts as
+ * MUDZKVOPI_PLAIN.
+ */
+#define MUDZKVOPI_PLAIN 0
+#define MUDZKVOPI_TIDY 1
+
+/*
+ * Translates a program into its word of that form. DONE: HIGH its instructions, LOW its symbols.
+ * Rules 1, 2, 3; each line by 4, 5, 20, 6, 7; 8; 19, against the symbols of that form. A list: 3;
+ * each line by 4, 5, 20, 6, 7; 8; 19.
  */
 uint64_t mudzkvopi_translate(
-    uint32_t setting, const uint8_t *text, size_t text_len, uint8_t *word, size_t word_len);
+    uint32_t setting, uint32_t form, const uint8_t *text, size_t text_len, uint8_t *word,
+    size_t word_len);
 uint64_t mudzkvopi_translate_list(
-    uint32_t setting, const uint8_t *list, size_t list_len, uint8_t *word, size_t word_len);
+    uint32_t setting, uint32_t form, const uint8_t *list, size_t list_len, uint8_t *word,
+    size_t word_len);
 
 /*
  * Runs of a program. A state is 51 numbers. A fresh state has a capacity of 1 to 1024, line 1, the
@@ -275,6 +302,16 @@ uint64_t mudzkvopi_run_table(
     uint32_t registers, uint32_t capacity, uint8_t *store, size_t store_len, uint16_t *lengths,
     size_t lengths_len, int32_t *place, uint32_t *steps, const uint8_t *kinds, size_t kinds_len,
     const uint32_t *operands, size_t operands_len, uint32_t budget);
+
+/*
+ * The value of a halted word, from the machine as its run left it. DONE: every register but the
+ * first is empty; LOW is the length of the value, whose symbols are the first LOW bytes of the
+ * store. UNTIDY: another register holds a symbol, '1' or '#'. The call is told nothing of the
+ * place: look at the run's end first, for only a word that is HALTED has a value. Rule 10.
+ */
+uint64_t mudzkvopi_value(
+    uint32_t registers, uint32_t capacity, const uint8_t *store, size_t store_len,
+    const uint16_t *lengths, size_t lengths_len);
 
 #ifdef __cplusplus
 }

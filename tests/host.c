@@ -1,7 +1,7 @@
 /*
  * A host of the library in C: translates a program, prints its word as the label has it, runs the program and the word, and prints the
- * counts of both. Then the same from a list, a table run twice, a budget cut in two, a run that is full, the LOOP-only setting, and
- * refusals. What it writes is held to host-expected.txt.
+ * counts of both. Then the same from a list, a table run twice, a budget cut in two, a run that is full, values and the tidy form, the
+ * LOOP-only setting, and refusals. What it writes is held to host-expected.txt.
  */
 #include <inttypes.h>
 #include <stdio.h>
@@ -31,6 +31,8 @@ static const char *name(uint64_t result)
         return "spent";
     case MUDZKVOPI_FULL:
         return "full";
+    case MUDZKVOPI_UNTIDY:
+        return "untidy";
     default:
         return "refused";
     }
@@ -42,13 +44,20 @@ static void print_result(const char *call, uint64_t result)
         printf("%s: refused %" PRIu32 " %" PRIu32 "\n", call, MUDZKVOPI_RULE(result), MUDZKVOPI_PLACE(result));
     else if (MUDZKVOPI_WHAT(result) == MUDZKVOPI_DONE)
         printf("%s: done %" PRIu32 " %" PRIu32 "\n", call, MUDZKVOPI_HIGH(result), MUDZKVOPI_LOW(result));
+    else if (MUDZKVOPI_WHAT(result) == MUDZKVOPI_UNTIDY)
+        printf("%s: untidy\n", call);
     else
         printf("%s: %s after %" PRIu32 " steps\n", call, name(result), MUDZKVOPI_STEPS(result));
 }
 
+static uint64_t translate_as(uint32_t form, const char *text, size_t room)
+{
+    return mudzkvopi_translate(MUDZKVOPI_ANY, form, (const uint8_t *)text, strlen(text), word, room);
+}
+
 static uint64_t translate(const char *text)
 {
-    return mudzkvopi_translate(MUDZKVOPI_ANY, (const uint8_t *)text, strlen(text), word, sizeof word);
+    return translate_as(MUDZKVOPI_PLAIN, text, sizeof word);
 }
 
 /* A fresh state with one value. */
@@ -118,7 +127,7 @@ static void from_list(void)
     print_result("read_program", read);
     print_result("write_program", written);
     printf("%s text\n", memcmp(text, adder, strlen(adder)) == 0 ? "the same" : "another");
-    print_result("translate_list", mudzkvopi_translate_list(MUDZKVOPI_ANY, list, numbers, word, sizeof word));
+    print_result("translate_list", mudzkvopi_translate_list(MUDZKVOPI_ANY, MUDZKVOPI_PLAIN, list, numbers, word, sizeof word));
     fresh_state(state, CAPACITY, 1, 3);
     print_result("run_source_list", mudzkvopi_run_source_list(MUDZKVOPI_ANY, list, numbers, state, MUDZKVOPI_STATE_NUMBERS, 100000));
 }
@@ -168,6 +177,26 @@ static void cut_in_two(void)
     printf("%" PRIu32 " steps, X0 is %" PRIu32 "\n", state[MUDZKVOPI_STATE_STEPS], state[MUDZKVOPI_STATE_VALUES]);
 }
 
+/* The adder's word in a form, run from X1 = 3, and its value. */
+static void value(uint32_t form)
+{
+    uint64_t translated = translate_as(form, adder, sizeof word);
+    int32_t place = 1;
+    uint32_t steps = 0;
+    uint64_t result;
+
+    printf("form %" PRIu32 "\n", form);
+    print_result("translate", translated);
+    printf("%.*s\n", (int)MUDZKVOPI_LOW(translated), (const char *)word);
+    fresh_machine(CAPACITY, 1, 3);
+    print_result("word", mudzkvopi_run_word(REGISTERS, CAPACITY, store, sizeof store, lengths, REGISTERS, &place, &steps, word,
+        MUDZKVOPI_LOW(translated), 1000000));
+    result = mudzkvopi_value(REGISTERS, CAPACITY, store, sizeof store, lengths, REGISTERS);
+    print_result("value", result);
+    if (MUDZKVOPI_WHAT(result) == MUDZKVOPI_DONE)
+        printf("%.*s\n", (int)MUDZKVOPI_LOW(result), (const char *)store);
+}
+
 /*
  * Every call that is given a program, under a setting: a program with a `while` in its second line, as text and as list, and what became
  * of the lent memory; then a LOOP program.
@@ -189,13 +218,15 @@ static void lesson(uint32_t setting)
     printf("setting %" PRIu32 "\n", setting);
     print_result("read_program", mudzkvopi_read_program(setting, bytes, strlen(text), out, sizeof out));
     print_result("write_program", mudzkvopi_write_program(setting, list, sizeof list, out, sizeof out));
-    print_result("translate", mudzkvopi_translate(setting, bytes, strlen(text), out, sizeof out));
-    print_result("translate_list", mudzkvopi_translate_list(setting, list, sizeof list, out, sizeof out));
+    print_result("translate", mudzkvopi_translate(setting, MUDZKVOPI_PLAIN, bytes, strlen(text), out, sizeof out));
+    print_result("translate, tidy", mudzkvopi_translate(setting, MUDZKVOPI_TIDY, bytes, strlen(text), out, sizeof out));
+    print_result("translate_list", mudzkvopi_translate_list(setting, MUDZKVOPI_PLAIN, list, sizeof list, out, sizeof out));
+    print_result("translate_list, tidy", mudzkvopi_translate_list(setting, MUDZKVOPI_TIDY, list, sizeof list, out, sizeof out));
     print_result("run_source", mudzkvopi_run_source(setting, bytes, strlen(text), first, MUDZKVOPI_STATE_NUMBERS, 100000));
     print_result("run_source_list", mudzkvopi_run_source_list(setting, list, sizeof list, second, MUDZKVOPI_STATE_NUMBERS, 100000));
     same = memcmp(out, untouched, sizeof out) == 0 && memcmp(first, fresh, sizeof fresh) == 0 && memcmp(second, fresh, sizeof fresh) == 0;
     printf("%s\n", same ? "all that was lent is as it was" : "what was lent is written");
-    print_result("a LOOP program", mudzkvopi_translate(setting, (const uint8_t *)adder, strlen(adder), out, sizeof out));
+    print_result("a LOOP program", mudzkvopi_translate(setting, MUDZKVOPI_PLAIN, (const uint8_t *)adder, strlen(adder), out, sizeof out));
 }
 
 static void refusals(void)
@@ -206,11 +237,14 @@ static void refusals(void)
 
     print_result("index 32", translate("X0 <- 0\nX32 <- 0\n"));
     print_result("left open", translate("loop X1\n"));
-    print_result("no room", mudzkvopi_translate(MUDZKVOPI_ANY, (const uint8_t *)adder, strlen(adder), word, 82));
+    print_result("no room", translate_as(MUDZKVOPI_PLAIN, adder, 82));
+    print_result("room for the plain word", translate_as(MUDZKVOPI_PLAIN, adder, 100));
+    print_result("no room for the tidy word", translate_as(MUDZKVOPI_TIDY, adder, 100));
     fresh_state(state, CAPACITY, 2, 1);
     print_result("a value too many", run_adder(state, MUDZKVOPI_STATE_NUMBERS, 1));
     print_result("50 numbers", run_adder(state, 50, 1));
     fresh_machine(CAPACITY, 0, 1);
+    print_result("value of a short store", mudzkvopi_value(2, CAPACITY, store, CAPACITY, lengths, 2));
     print_result("short store", mudzkvopi_run_word(2, CAPACITY, store, CAPACITY, lengths, 2, &place, &steps, (const uint8_t *)"1#", 2, 1));
     print_result(
         "no register", mudzkvopi_run_word(2, CAPACITY, store, 2 * CAPACITY, lengths, 2, &place, &steps, (const uint8_t *)"1#111#", 6, 1));
@@ -233,6 +267,9 @@ int main(void)
     table();
     cut_in_two();
     run_both("X0 <- X0 + 1\n", 2, 0, 2);
+    value(MUDZKVOPI_PLAIN);
+    value(MUDZKVOPI_TIDY);
+    value(7); /* counts as plain */
     lesson(MUDZKVOPI_ANY);
     lesson(MUDZKVOPI_LOOP_ONLY);
     lesson(7); /* counts as LOOP-only */

@@ -1,7 +1,7 @@
 /*
  * The stack that each entry takes, held to what the header promises: it is called on a thread whose stack was painted, and the bytes that
  * are no longer paint are counted, less the same count for an entry that does nothing. The inputs are the deepest and longest that are
- * accepted: 16 loops around 480 copies, and its word of 311,044 symbols.
+ * accepted: 16 loops around 480 copies, and its tidy word of 312,067 symbols.
  */
 #define _GNU_SOURCE
 #include <pthread.h>
@@ -30,9 +30,14 @@ static void read_program(void) { mudzkvopi_read_program(MUDZKVOPI_ANY, (uint8_t 
 static void write_program(void) { mudzkvopi_write_program(MUDZKVOPI_ANY, list, sizeof list, bytes, sizeof bytes); }
 static void translate(void)
 {
-    word_len = MUDZKVOPI_LOW(mudzkvopi_translate(MUDZKVOPI_ANY, (uint8_t *)text, text_len, word, sizeof word));
+    mudzkvopi_translate(MUDZKVOPI_ANY, MUDZKVOPI_PLAIN, (uint8_t *)text, text_len, word, sizeof word);
+    word_len = MUDZKVOPI_LOW(mudzkvopi_translate(MUDZKVOPI_ANY, MUDZKVOPI_TIDY, (uint8_t *)text, text_len, word, sizeof word));
 }
-static void translate_list(void) { mudzkvopi_translate_list(MUDZKVOPI_ANY, list, sizeof list, word, sizeof word); }
+static void translate_list(void)
+{
+    mudzkvopi_translate_list(MUDZKVOPI_ANY, MUDZKVOPI_PLAIN, list, sizeof list, word, sizeof word);
+    mudzkvopi_translate_list(MUDZKVOPI_ANY, MUDZKVOPI_TIDY, list, sizeof list, word, sizeof word);
+}
 static void run_source(void)
 {
     mudzkvopi_run_source(MUDZKVOPI_ANY, (uint8_t *)text, text_len, state, MUDZKVOPI_STATE_NUMBERS, 1000);
@@ -51,6 +56,7 @@ static void run_table(void)
 {
     mudzkvopi_run_table(64, 1024, store, sizeof store, lengths, 64, &place, &steps, kinds, count, operands, count, 1000);
 }
+static void value(void) { mudzkvopi_value(64, 1024, store, sizeof store, lengths, 64); }
 
 static void *call(void *entry)
 {
@@ -89,6 +95,7 @@ int main(void)
         { "write_word", write_word, MUDZKVOPI_STACK_WRITE_WORD },
         { "run_word", run_word, MUDZKVOPI_STACK_RUN_WORD },
         { "run_table", run_table, MUDZKVOPI_STACK_RUN_TABLE },
+        { "value", value, MUDZKVOPI_STACK_VALUE },
     };
     int too_much = 0;
     size_t base = stack_of(version);

@@ -63,14 +63,14 @@ fn the_adder() {
     assert_eq!(ran(Form::Tidy, "X0 <- X0 + 1\n", &[4]), (End::Halted, 2, Some(5)));
 }
 
-/// The longest word known has room with its clears: 16 loops around 480 copies.
+/// The longest words known with their clears, in symbols and in instructions: 16 loops around 480 copies, and 512 copies.
 #[test]
 fn the_longest() {
-    let around = |command: Command| vec![command; 16];
-    let copies = vec![Command::Copy { to: 31, from: 30 }; 480];
-    let largest = [around(Command::Open(Kind::Loop, 31)), copies, around(Command::Close(Kind::Loop, 31))].concat();
-    let sizes = |form| (translate(form, &largest).len(), spell(&translate(form, &largest)).len());
-    assert_eq!((sizes(Form::Plain), sizes(Form::Tidy)), ((6_145, 311_044), (6_238, 312_067)));
+    let copies = |count: usize| vec![Command::Copy { to: 31, from: 30 }; count];
+    let deep = [vec![Command::Open(Kind::Loop, 31); 16], copies(480), vec![Command::Close(Kind::Loop, 31); 16]].concat();
+    let sizes = |form, program: &[Command]| (translate(form, program).len(), spell(&translate(form, program)).len());
+    assert_eq!((sizes(Form::Plain, &deep), sizes(Form::Tidy, &deep)), ((5_953, 311_044), (6_046, 312_067)));
+    assert_eq!((translate(Form::Plain, &copies(512)).len(), translate(Form::Tidy, &copies(512)).len()), (6_145, 6_238));
 }
 
 /// "otherwise the answer is untidy": whatever the other register holds, and whichever it is.
