@@ -139,7 +139,7 @@ impl Example {
             registers: self.numbers[0][0] as usize,
             capacity: self.numbers[0][1] as usize,
             store: self.texts[0].clone(),
-            lengths: self.numbers[1].iter().map(|&n| n as u16).collect(),
+            lengths: self.numbers[1..].concat().iter().map(|&n| n as u16).collect(),
             place: 1,
             steps: 0,
         }
