@@ -3,6 +3,9 @@
 use std::fs;
 use std::path::Path;
 use twin::page::{self, Example};
+use twin::program::{read, Setting};
+use twin::translation::{translate, Form};
+use twin::word::spell;
 use twin::{believed, tool, Answer, Refusal};
 
 fn at_root(name: &str) -> std::path::PathBuf {
@@ -71,14 +74,26 @@ fn addition_as_it_is_shown() {
     }
 }
 
+/// The symbols in the second cells of a table of COURSE.md, from a row on.
+fn decoded(section: &str, first: &str) -> String {
+    let course = page("docs/COURSE.md");
+    let (_, section) = course.split_once(section).expect("the section");
+    let rows = section.lines().skip_while(|l| !l.starts_with(first)).take_while(|l| l.starts_with('|'));
+    rows.map(|row| row.split('|').nth(2).expect("a second cell").trim().trim_matches('`').to_string()).collect()
+}
+
 /// The word that COURSE.md takes apart, one row of its table for each instruction, is the label of examples/addition.
 #[test]
 fn decoded_word() {
-    let course = page("docs/COURSE.md");
-    let (_, section) = course.split_once("## A word, decoded").expect("the section");
-    let rows = section.lines().skip_while(|l| !l.starts_with("| 1 |")).take_while(|l| l.starts_with('|'));
-    let word: String = rows.map(|row| row.split('|').nth(2).expect("a second cell").trim().trim_matches('`').to_string()).collect();
-    assert_eq!(word + "\n", page("examples/addition/label.txt"));
+    assert_eq!(decoded("## A word, decoded", "| 1 |") + "\n", page("examples/addition/label.txt"));
+}
+
+/// The clear that COURSE.md takes apart is what the tidy form adds to the adder's 14 instructions.
+#[test]
+fn decoded_clear() {
+    let adder = read(Setting::Any, b"loop X1\nX0 <- X0 + 1\nendloop X1\n").expect("an accepted program");
+    let clear = spell(&translate(Form::Tidy, &adder)[14..]);
+    assert_eq!(decoded("## Tidy words", "| 15 |").as_bytes(), clear);
 }
 
 /// The students' page has every spelling that the program's reader takes.

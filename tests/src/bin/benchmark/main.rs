@@ -10,6 +10,7 @@ use std::path::Path;
 use std::time::Duration;
 use std::{env, fs};
 use timing::{measure, Row, Work};
+use twin::cases::{PLAIN, TIDY};
 use twin::machine::Machine;
 use works::*;
 
@@ -38,9 +39,11 @@ fn speed() -> Vec<Work> {
         reading("read 6 lines", 6, MULTIPLY),
         reading("read 512 lines", 512, &largest),
         writing("write 512 lines", 512, &largest),
-        translating("translate 6 lines", 6, as_text(MULTIPLY)),
-        translating("translate the largest, 311,044 symbols", 512, as_text(&largest)),
-        translating("translate the largest, from its list", 512, as_list(&largest)),
+        translating("translate 6 lines", 6, PLAIN, as_text(MULTIPLY)),
+        translating("translate 6 lines, tidy", 6, TIDY, as_text(MULTIPLY)),
+        translating("translate the largest, 311,044 symbols", 512, PLAIN, as_text(&largest)),
+        translating("translate the largest, tidy, 312,067 symbols", 512, TIDY, as_text(&largest)),
+        translating("translate the largest, from its list", 512, PLAIN, as_list(&largest)),
         running_source("source run, 1,862 steps", as_text(MULTIPLY), &[0, 30, 30]),
         running_source("source run, 100,000 steps", as_text(BUSY), &[0, 100]),
         running_source("source run, 100,000 steps, from a list", as_list(BUSY), &[0, 100]),
@@ -52,6 +55,7 @@ fn speed() -> Vec<Work> {
         running_word("word run, 1 step, 64 registers of 1,024", 0, b"1###", &Machine::fresh(64, 1024, &[]), false),
         running_word("table run, 100,000 steps, 60 symbols", 0, &moving, &first(60), true),
         running_word("table run, 1 step, 64 registers of 1,024", 0, b"1###", &Machine::fresh(64, 1024, &[]), true),
+        valuing("value, 64 registers of 1,024", &Machine::fresh(64, 1024, &[vec![b'1'; 1024]])),
     ]
 }
 
@@ -78,7 +82,7 @@ fn growths() -> (Vec<Growth>, Vec<Work>) {
     let sizes = [1_000, 3_000, 10_000, 30_000, 100_000, 300_000];
     let translated = [10_000, 20_000, 50_000, 100_000, 200_000, 300_000];
     let deep = |depth: usize| nested(depth, 512 - 2 * depth);
-    let translate = |text: Vec<u8>| translating("", word_of(&text).len(), as_text(&text));
+    let translate = |text: Vec<u8>| translating("", word_of(&text).len(), PLAIN, as_text(&text));
     let machine = Machine::fresh(64, 16, &[]);
     let (mut growths, mut works) = (Vec::new(), Vec::new());
     let mut growth = |name, by, each, sizes: &[usize], work: &dyn Fn(usize) -> Work| {
@@ -86,7 +90,7 @@ fn growths() -> (Vec<Growth>, Vec<Work>) {
         works.extend(sizes.iter().map(|&size| work(size)));
     };
     growth("read plain lines", "lines", "line", &lines, &|n| reading("", n, &nested(0, n)));
-    growth("translate plain lines", "lines", "line", &lines, &|n| translating("", n, as_text(&nested(0, n))));
+    growth("translate plain lines", "lines", "line", &lines, &|n| translating("", n, PLAIN, as_text(&nested(0, n))));
     growth("read 512 lines", "loops", "line", &depths, &|depth| reading("", 512, &deep(depth)));
     growth("translate 512 lines", "loops", "symbol", &depths, &|depth| translate(deep(depth)));
     growth("translate in 16 loops", "symbols", "symbol", &translated, &|n| translate(in_16_loops(n)));

@@ -6,7 +6,7 @@ use std::path::PathBuf;
 use std::process::{Command as Process, Stdio};
 use std::rc::Rc;
 use std::{env, fs};
-use twin::cases::{Program, ANY, PLAIN};
+use twin::cases::{form_of, Program, ANY};
 use twin::library::{self, Code};
 use twin::machine::Machine;
 use twin::program::{self, read, read_list, Command, Kind, Setting};
@@ -87,7 +87,7 @@ pub fn writing(name: &str, size: usize, text: &[u8]) -> Work {
     )
 }
 
-pub fn translating(name: &str, size: usize, program: Program) -> Work {
+pub fn translating(name: &str, size: usize, form: u32, program: Program) -> Work {
     let again = program.clone();
     let mut word = vec![0; 400_000];
     Work::new(
@@ -95,12 +95,12 @@ pub fn translating(name: &str, size: usize, program: Program) -> Work {
         size,
         move || {
             black_box(match black_box(&program) {
-                Program::Text(text) => library::translate(ANY, PLAIN, text, &mut word),
-                Program::List(list) => library::translate_list(ANY, PLAIN, list, &mut word),
+                Program::Text(text) => library::translate(ANY, form, text, &mut word),
+                Program::List(list) => library::translate_list(ANY, form, list, &mut word),
             });
         },
         move || {
-            black_box(black_box(&again).read(Setting::Any).map(|c| spell(&translate(Form::Plain, &c)))).ok();
+            black_box(black_box(&again).read(Setting::Any).map(|c| spell(&translate(form_of(form), &c)))).ok();
         },
     )
 }
@@ -216,6 +216,21 @@ pub fn running_word(name: &str, size: usize, text: &[u8], fresh: &Machine, read:
                 let table = machine.accept(black_box(&whole)).expect("a good machine and word");
                 black_box(machine.run(&table, 100_000));
             }
+        },
+    )
+}
+
+/// The value of a machine.
+pub fn valuing(name: &str, machine: &Machine) -> Work {
+    let (machine, again) = (machine.clone(), machine.clone());
+    Work::new(
+        name,
+        0,
+        move || {
+            black_box(library::value(black_box(&machine)));
+        },
+        move || {
+            black_box(black_box(&again).check().map(|()| again.value())).ok();
         },
     )
 }
