@@ -96,8 +96,8 @@ fn symbols(program: &Program, form: Form) -> usize {
     program.read(Setting::Any).map_or(9, |c| spell(&translate(form, &c)).len())
 }
 
-/// A translation in each form, and in one by a number that is neither's, with outputs of the length that each form's word has, of one less,
-/// and of the most that `longest` allows.
+/// A translation in each form, and by a number that is neither's, with outputs of the length that each form's word has, of one less, and of
+/// more, for the plain form as much as `longest` allows.
 fn translation_edges(tally: &mut Tally, setting: u32, program: &Program, longest: usize) {
     let (plain, tidy) = (symbols(program, Form::Plain), symbols(program, Form::Tidy));
     let mut lents = vec![plain - 1, plain, tidy - 1, tidy];
@@ -107,8 +107,8 @@ fn translation_edges(tally: &mut Tally, setting: u32, program: &Program, longest
             tally.hold(Case::Translate { setting, form, program: program.clone(), lent });
         }
     }
-    for form in [PLAIN, TIDY] {
-        tally.hold(Case::Translate { setting, form, program: program.clone(), lent: longest });
+    for (form, lent) in [(PLAIN, longest), (TIDY, tidy + 9)] {
+        tally.hold(Case::Translate { setting, form, program: program.clone(), lent });
     }
 }
 
