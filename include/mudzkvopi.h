@@ -214,10 +214,10 @@ uint64_t mudzkvopi_write_program(
  * The form of a program's word. When the plain word has halted, X1 and the later variables may
  * still hold something, and then it has no value (see mudzkvopi_value). The tidy word is the plain
  * word with clears of registers 2 to K behind it, in rising order; with K of 0 or 1 it is the plain
- * word. From fresh registers, and were they unlimited, it halts exactly when its program does, after
- * the plain word's steps and 2 * v + 2 for each cleared register that held v, and then always has a
- * value: as many '1' as X0, none if K is 0 (claim TidyDemandOfPrograms). A run here that ended as
- * HALTED has it too (claim TidyValue). A number other than these two counts as MUDZKVOPI_PLAIN.
+ * word. On a fresh machine without limits it halts exactly when its program does, after the plain
+ * word's steps and 2 * v + 2 for each cleared register that held v, and then always has a value: as
+ * many '1' as X0, none if K is 0 (claim TidyDemandOfPrograms). So it has after a run here that
+ * ended as HALTED (claim TidyValue). A number other than these two counts as MUDZKVOPI_PLAIN.
  */
 #define MUDZKVOPI_PLAIN 0
 #define MUDZKVOPI_TIDY 1
