@@ -101,6 +101,7 @@ fn symbols(program: &Program, form: Form) -> usize {
 fn translation_edges(tally: &mut Tally, setting: u32, program: &Program, longest: usize) {
     let (plain, tidy) = (symbols(program, Form::Plain), symbols(program, Form::Tidy));
     let mut lents = vec![plain - 1, plain, tidy - 1, tidy];
+    lents.sort_unstable();
     lents.dedup();
     for form in [PLAIN, TIDY, u32::MAX] {
         for &lent in &lents {
@@ -150,7 +151,7 @@ fn setting_edges(tally: &mut Tally) {
     }
 }
 
-/// Each sample under each number of a form that counts as plain, with outputs of every length up to past the tidy word's.
+/// Each sample in each form, and by each number that counts as plain, with outputs of every length up to past the tidy word's.
 fn form_edges(tally: &mut Tally) {
     for (text, _) in edges::SAMPLES {
         let list = Program::Text(text.into()).converted(Setting::Any).expect("a sample is accepted");
