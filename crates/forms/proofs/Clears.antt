@@ -34,7 +34,7 @@ pub clears-none : clears 0 ≡ []
 unfolding clears
 clears-none = refl
 
-clears-short : (n : ℕ) → n ≤ 255 → (length (clears n) ≤ 3 * n) × (symbols-of (clears n) ≤ 272 * n)
+pub clears-short : (n : ℕ) → n ≤ 255 → (length (clears n) ≤ 3 * n) × (symbols-of (clears n) ≤ 272 * n)
 unfolding clears
 clears-short zero l = (omega arith, omega arith)
 clears-short (suc zero) l = (omega arith, omega arith)
