@@ -1,12 +1,12 @@
 -- The charges of the clears, by the registers that the plain word left and by the values of the source.
-use mathlib.Core.Path.{_≡_, refl, ap, ap₂, _∙_}
+use mathlib.Core.Path.{_≡_, refl, ap, _∙_}
 use mathlib.Core.Bool.{cond}
-use mathlib.Core.List.{List, []}
-use Prim.Native.Nat.{ℕ, zero, suc, pred, _+_, _*_, _≤_, _<_}
+use mathlib.Core.List.{[]}
+use Prim.Native.Nat.{ℕ, zero, suc, pred, _≤_, _<_}
 use native.Mathlib.Omega.{arith}
 use lib.ListN.{length, length-replicate}
 use borrow.Author.Tests.{lt-ltb}
-use Rattle.theory.specs.Word.{Symbol, one}
+use Rattle.theory.specs.Word.{one}
 use Rattle.theory.specs.Machines.{holding, ones}
 use Rattle.tidy.specs.Forms.{tidy-charges}
 use Rattle.tidy.specs.Claims.{TidyChargesByValues, clear-charges}

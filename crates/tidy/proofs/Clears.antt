@@ -6,15 +6,15 @@ use Prim.Native.Nat.{ℕ, zero, suc, pred, _+_, _*_, _≤_, _<_, max}
 use native.Mathlib.Nat.{add-zero}
 use native.Mathlib.Omega.{arith}
 use lib.ListN.{length, length-append}
-use Rattle.theory.specs.Basics.{at, and-then, put}
-use Rattle.theory.specs.Runs.{register, unlimited, stay, move}
+use Rattle.theory.specs.Basics.{at, and-then}
+use Rattle.theory.specs.Runs.{unlimited, stay, move}
 use Rattle.theory.specs.ProgramText.{clear, Command, plain, opens, closes, variables, Block, empty, single, pair, lines}
 use Rattle.theory.specs.Source as S
 use Rattle.theory.specs.Source.{State, set-variable, deeper}
 use Rattle.theory.specs.Word.{Instruction}
 use Rattle.theory.specs.Translation.{clearing, plain-code, before-body, after-body, code, charge}
 use Rattle.theory.specs.Claims.{SourceRun}
-use Rattle.theory.proofs.Cells.{put-same, put-other, put-cases, Sits, sits-left, sits-right}
+use Rattle.theory.proofs.Cells.{put-other, put-cases, Sits, sits-left, sits-right}
 use Rattle.theory.proofs.Joins.{ends, join}
 use Rattle.theory.proofs.Partners.{Stands}
 use Rattle.theory.proofs.Sizes.{variables-append}

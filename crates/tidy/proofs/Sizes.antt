@@ -1,19 +1,20 @@
 -- Sizes of the tidy word: the clears add at most 31 times 3 instructions and 48 symbols, and name no further register.
-use mathlib.Core.Path.{_≡_, refl, ap, _∙_}
-use mathlib.Core.List.{List, [], _++_}
+use mathlib.Core.Path.{_≡_}
+use mathlib.Core.List.{List, _++_}
 use Prim.Native.Nat.{ℕ, zero, suc, _+_, _*_, _≤_}
 use native.Mathlib.Omega.{arith}
 use lib.ListN.{length, length-append}
 use Rattle.theory.specs.Basics.{EachOf}
-use Rattle.theory.specs.ProgramText.{Command, variables, lines, block-of}
+use Rattle.theory.specs.ProgramText.{Command, variables}
 use Rattle.theory.specs.Word.{Instruction, operand}
 use Rattle.theory.specs.Translation.{clearing, word-of}
 use Rattle.theory.specs.Claims.{Accepted, NamesAtMost, Sized}
-use Rattle.theory.proofs.Nesting.{few-variables, well-nested}
+use Rattle.theory.proofs.Nesting.{few-variables}
 use Rattle.theory.proofs.Sizes.{weight, spelled, weight-append, each-append, each-map, Fits, clearing-fits, word-fits, word-limits}
 use Rattle.theory.proofs.Sizes.{words-fit, fits-a-set}
-use Rattle.tidy.specs.Forms.{clears, tidy-word, tidy-word-of, tidy-text}
+use Rattle.tidy.specs.Forms.{clears, tidy-word-of, tidy-text}
 use Rattle.tidy.specs.Claims.{TidyWordsFit}
+use Rattle.tidy.proofs.Tidy.{tidy-word-is}
 
 clears-short : (K : ℕ) → length (clears K) ≤ 3 * K
 unfolding clears
@@ -36,10 +37,6 @@ clears-fit most (suc (suc n)) h =
     let last : _ = clearing-fits most (suc (suc n)) (omega arith, h) in
     each-append (Fits most) (clears (suc n)) (clearing (suc (suc n))) (clears-fit most (suc n) (omega arith)) last
 
-tidy-is : (p : List Command) → Accepted p → tidy-word-of p ≡ word-of p ++ clears (variables p)
-unfolding tidy-word-of tidy-word word-of
-tidy-is p a = ap (λ l. word-of p ++ clears (variables l)) (well-nested p a)
-
 tidy-sized : (p : List Command) → Accepted p → Sized (variables p) (tidy-word-of p)
 tidy-sized p a =
     let K : ℕ = variables p in
@@ -50,7 +47,7 @@ tidy-sized p a =
     let heavier : weight w ≡ weight (word-of p) + weight (clears K) = weight-append (word-of p) (clears K) in
     let fit : EachOf (Fits (K + 17)) w =
     each-append (Fits (K + 17)) (word-of p) (clears K) (word-fits p a) (clears-fit (K + 17) K (omega arith)) in
-    rw (tidy-is p a)
+    rw (tidy-word-is p a)
     (record {
       some-instruction = omega (arith, longer, words-fit p a .sized .some-instruction);
       few-symbols = omega (arith, spelled w, heavier, limits .0, clears-light K few);

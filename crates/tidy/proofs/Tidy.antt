@@ -3,7 +3,7 @@ use mathlib.Core.Path.{_≡_, refl, sym, ap, _∙_, subst}
 use mathlib.Core.Bool.{Bool, true, false, cond}
 use mathlib.Core.Option.{none}
 use mathlib.Core.List.{List, [], _∷_, _++_, append-nil}
-use Prim.Native.Nat.{ℕ, zero, suc, pred, _+_, _*_, _≤_, _<_}
+use Prim.Native.Nat.{ℕ, zero, suc, pred, _+_, _≤_, _<_}
 use native.Mathlib.Omega.{arith}
 use lib.ListN.{length, length-append}
 use lib.Dec.{ltb}
@@ -13,22 +13,21 @@ use Rattle.theory.specs.ProgramText.{Command, variables, Block, lines, block-of
 use Rattle.theory.specs.Source as S
 use Rattle.theory.specs.Source.{State}
 use Rattle.theory.specs.Word as W
-use Rattle.theory.specs.Word.{Symbol, Instruction, forward}
+use Rattle.theory.specs.Word.{Instruction, forward}
 use Rattle.theory.specs.Translation.{code, word, word-of}
-use Rattle.theory.specs.Machines.{fresh-source, fresh-word, holding, ones, HasValue}
-use Rattle.theory.specs.Claims.{Ends, SourceRun, WordRun, HoldsValues, Demand3}
+use Rattle.theory.specs.Machines.{fresh-source, fresh-word, holding, ones}
+use Rattle.theory.specs.Claims.{Accepted, Ends, SourceRun, WordRun, Demand3}
 use Rattle.theory.specs.declared.End.{End}
 use Rattle.theory.specs.declared.End.the-variants.{Halted}
 use Rattle.theory.proofs.Cells.{Sits, sits-self, sits-right}
-use Rattle.theory.proofs.Joins.{ends, join, only-end}
+use Rattle.theory.proofs.Joins.{join, only-end}
 use Rattle.theory.proofs.Unlimited.{source-live, word-live}
 use Rattle.theory.proofs.Endings.{ended-stops}
 use Rattle.theory.proofs.Nesting.{well-nested}
 use Rattle.theory.proofs.Stops.{halted-line}
 use Rattle.theory.proofs.Demand.{demand-of-blocks}
-use Rattle.tidy.specs.Forms.{clears, tidy-word, tidy-word-of, tidy-charges}
-use Rattle.tidy.specs.Claims.{Tidied, TidyDemand, TidyDemandOfBlocks, TidyDemandOfPrograms, TidyNothingToClear}
-use Rattle.tidy.specs.Claims.{clear-charges}
+use Rattle.tidy.specs.Forms.{clears, tidy-word, tidy-word-of}
+use Rattle.tidy.specs.Claims.{Tidied, TidyDemand, TidyDemandOfBlocks, TidyDemandOfPrograms, TidyNothingToClear, clear-charges}
 use Rattle.tidy.proofs.Longer.{Stops, runs-on, stops-too}
 use Rattle.tidy.proofs.Clears.{followed-by, lines-followed, code-followed, clear-lines, clears-length, variables-same, clears-code}
 use Rattle.tidy.proofs.Clears.{Cleared, clears-run}
@@ -156,12 +155,14 @@ tidy-demand-of-programs p a v =
     let b : Block = block-of p in
     subst (λ l. TidyDemand l (word b) (tidy-word b) v) (well-nested p a) (tidy-demand-of-blocks b v)
 
+-- Of an accepted program K is that of its block
+pub tidy-word-is : (p : List Command) → Accepted p → tidy-word-of p ≡ word-of p ++ clears (variables p)
+unfolding tidy-word-of tidy-word word-of
+tidy-word-is p a = ap (λ l. word-of p ++ clears (variables l)) (well-nested p a)
+
 pub tidy-nothing-to-clear : TidyNothingToClear
-unfolding word-of tidy-word-of tidy-word clears
-tidy-nothing-to-clear p a few =
-    let b : Block = block-of p in
-    let none-left : clears (variables (lines b)) ≡ [] = ap (λ l. clears (variables l)) (well-nested p a) ∙ go (variables p) few in
-    ap (λ l. word b ++ l) none-left ∙ append-nil (word b)
+unfolding clears
+tidy-nothing-to-clear p a few = tidy-word-is p a ∙ (ap (λ l. word-of p ++ l) (go (variables p) few) ∙ append-nil (word-of p))
   where
     go : (K : ℕ) → K ≤ 1 → clears K ≡ []
     go zero h = refl

@@ -1,9 +1,9 @@
 -- The value after a run of the tidy word on a set.
-use mathlib.Core.Path.{_≡_, refl, ap, ap₂, _∙_, subst}
+use mathlib.Core.Path.{_≡_, ap, subst}
 use mathlib.Core.Logic.{_≢_}
-use mathlib.Core.Bool.{true, cond}
-use mathlib.Core.List.{List, []}
-use Prim.Native.Nat.{ℕ, _+_, _-_, _<_}
+use mathlib.Core.Bool.{true}
+use mathlib.Core.List.{List}
+use Prim.Native.Nat.{ℕ, _+_, _-_}
 use native.Mathlib.Omega.{arith}
 use lib.ListN.{length}
 use lib.Dec.{eqb}
@@ -12,7 +12,7 @@ use Rattle.theory.specs.Runs.{Outcome, run, unlimited, within}
 use Rattle.theory.specs.ProgramText.{variables}
 use Rattle.theory.specs.Word as W
 use Rattle.theory.specs.Word.{Symbol}
-use Rattle.theory.specs.Machines.{fresh-word, valued, untidy, HasValue, is-tidy, value-at}
+use Rattle.theory.specs.Machines.{fresh-word, valued, HasValue, is-tidy, value-at}
 use Rattle.theory.specs.Claims.{Ends}
 use Rattle.theory.specs.declared.End.the-variants.{Halted, Spent, Full}
 use Rattle.theory.proofs.GoodMemory.{all-below-from}
