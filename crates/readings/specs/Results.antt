@@ -19,7 +19,8 @@ use Rattle.bench.specs.Table as T
 use Rattle.tidy.specs.Forms.{tidy-charges}
 use Rattle.tidy.specs.declared.Form.the-variants.{Plain, Tidy}
 use Rattle.readings.specs.Example.{Example, output, fills, row, charges, runs, word-runs, value, form, numbers, spelled, prints}
-use Rattle.readings.specs.Example.{SourceShown, WordShown, FormShown, passes, has, entry, state, fresh, nested, loop-in-while, register, several}
+use Rattle.readings.specs.Example.{SourceShown, WordShown, FormShown, passes, has, entry, state, fresh, nested, loop-in-while}
+use Rattle.readings.specs.Example.{register, several}
 
 -- A program as a list, its word, and the text of a list
 abbrev pub list-for : String → Answer (List ℕ)
@@ -214,14 +215,7 @@ values =
     ∷ value "1###" (pos 1) 2 ("1" ∷ "1" ∷ []) none
     ∷ value "1###" (pos 3) 2 ("1" ∷ "" ∷ []) none
     ∷ value "1###" (negsuc 0) 2 ("1" ∷ "1" ∷ []) none
-    ∷ numbers (present (
-    halted-only none 0
-    ∷ halted-only (some Strayed) 1
-    ∷ halted-only (some Spent) 2
-    ∷ halted-only (some Full) 3
-    ∷ halted-only (some Halted) 4
-    ∷ []
-    )) (4 ∷ [])
+    ∷ numbers (present (map (λ e. halted-only e 7) (none ∷ some Strayed ∷ some Spent ∷ some Full ∷ []))) []
     ∷ []
 
 abbrev pub formed : List String → T.Shown → FormShown
