@@ -56,41 +56,46 @@ module _ (b : Block) (v : ℕ → ℕ) where
   abbrev p⁺ : List Command
   p⁺ = lines b ++ lines (clear-lines (pred (variables (lines b))))
 
-  abbrev Start : W.State
-  Start = fresh-word (variables (lines b)) v
+  abbrev w⁺ : List Instruction
+  w⁺ = tidy-word b
 
-  word-is : word (followed-by b x) ≡ tidy-word b
+  abbrev start : W.State
+  start = fresh-word (variables (lines b)) v
+
+  abbrev HasHalted : W.State → Type 0
+  HasHalted t = Ends (W.machine unlimited (tidy-word b)) Halted t
+
+  word-is : word (followed-by b x) ≡ w⁺
   unfolding word tidy-word
   word-is =
       let same : variables (lines (followed-by b x)) ≡ K = ap variables (lines-followed b x) ∙ variables-same p in
       ap {B = List Instruction} (λ l. forward 1 ∷ l)
       (ap (λ L. code L 0 (followed-by b x)) same ∙ (code-followed K 0 b x ∙ ap (λ l. code K 0 b ++ l) (clears-code K 0 K)))
 
-  demand : Demand3 p⁺ (tidy-word b) v
+  demand : Demand3 p⁺ w⁺ v
   demand =
       subst (λ w. Demand3 p⁺ w v) word-is
       (subst (λ l. Demand3 l (word (followed-by b x)) v) (lines-followed b x) (demand-of-blocks (followed-by b x) v))
 
-  start-is : fresh-word (variables p⁺) v ≡ Start
+  -- Both programs have the same number of variables, so the same start
+  start-is : fresh-word (variables p⁺) v ≡ start
   start-is = ap (λ L. fresh-word L v) (variables-same p)
 
-  -- A run from demand 3's start of the longer program, and one from that of the program
-  there : (m : ℕ) (t : W.State) → WordRun (tidy-word b) Start m t → WordRun (tidy-word b) (fresh-word (variables p⁺) v) m t
-  there m t = subst (λ f. WordRun (tidy-word b) f m t) (sym start-is)
+  there : (m : ℕ) (t : W.State) → WordRun w⁺ start m t → WordRun w⁺ (fresh-word (variables p⁺) v) m t
+  there m t = subst (λ s. WordRun w⁺ s m t) (sym start-is)
 
-  back : (m : ℕ) (t : W.State) → WordRun (tidy-word b) (fresh-word (variables p⁺) v) m t → WordRun (tidy-word b) Start m t
-  back m t = subst (λ f. WordRun (tidy-word b) f m t) start-is
+  back : (m : ℕ) (t : W.State) → WordRun w⁺ (fresh-word (variables p⁺) v) m t → WordRun w⁺ start m t
+  back m t = subst (λ s. WordRun w⁺ s m t) start-is
 
-  -- Where the program has halted in s, the longer one has the clears before it
+  -- Where the program has halted, the longer one has the clears before it
   source-clears : (s : State) → Ends (S.machine unlimited p) Halted s → Cleared p⁺ (pred K) (suc (length p)) s
   source-clears s h =
       let stands : Sits p⁺ (suc (length p)) (lines x) =
       subst (λ n. Sits p⁺ n (lines x)) (omega arith) (sits-right p⁺ 1 p (lines x) (sits-self p⁺)) in
       clears-run p⁺ (pred K) (suc (length p)) stands s (halted-line unlimited b s h)
 
-  halts : (c : ℕ) (s : State) → SourceRun (lines b) (fresh-source v) c s → Ends (S.machine unlimited (lines b)) Halted s
-      → (m : ℕ) × (t : W.State) × WordRun (tidy-word b) (fresh-word (variables (lines b)) v) m t
-      × Ends (W.machine unlimited (tidy-word b)) Halted t × Tidied (lines b) (word b) v c s m t
+  halts : (c : ℕ) (s : State) → SourceRun p (fresh-source v) c s → Ends (S.machine unlimited p) Halted s
+      → (m : ℕ) × (t : W.State) × WordRun w⁺ start m t × HasHalted t × Tidied p (word b) v c s m t
   halts c s g h =
       let r : Cleared p⁺ (pred K) (suc (length p)) s = source-clears s h in
       let u : State = r .last in
@@ -99,8 +104,8 @@ module _ (b : Block) (v : ℕ → ℕ) where
       let last : u .line ≡ suc (length p⁺) = omega (arith, r .there, length-append p (lines x), clears-length (pred K)) in
       let d : _ = demand .halts c⁺ u run (rw (eq-eqb (u .line) (suc (length p⁺)) last)) in
       let plain : _ = demand-of-blocks b v .halts c s g h in
-      let held : (n : ℕ) → 0 < n → d .0 .registers n ≡ holding K (u .values) n =
-      λ n l. d .3 n l ∙ ap (λ L. holding L (u .values) n) (variables-same p) in (
+      let held : (r : ℕ) → 0 < r → d .0 .registers r ≡ holding K (u .values) r =
+      λ r l. d .3 r l ∙ ap (λ L. holding L (u .values) r) (variables-same p) in (
         1 + c⁺,
         d .0,
         back (1 + c⁺) (d .0) (d .1),
@@ -118,21 +123,18 @@ module _ (b : Block) (v : ℕ → ℕ) where
         },
       )
 
-  -- A word halts in one way
-  only-one : (c : ℕ) (s : State) (m m′ : ℕ) (t t′ : W.State) → WordRun (tidy-word b) Start m t → WordRun (tidy-word b) Start m′ t′
-      → Ends (W.machine unlimited (tidy-word b)) Halted t → Ends (W.machine unlimited (tidy-word b)) Halted t′
+  -- A word halts in one way, so what is so of one run to its end is so of another
+  only-one : (c : ℕ) (s : State) (m m′ : ℕ) (t t′ : W.State) → WordRun w⁺ start m t → WordRun w⁺ start m′ t′ → HasHalted t → HasHalted t′
       → Tidied p (word b) v c s m′ t′ → Tidied p (word b) v c s m t
   only-one c s m m′ t t′ g g′ h h′ r =
-      let stops : (u : W.State) (e : End) → Ends (W.machine unlimited (tidy-word b)) e u → W.step unlimited (tidy-word b) u ≡ none =
-      ended-stops (W.machine unlimited (tidy-word b)) (word-live unlimited (tidy-word b)) in
+      let stops : (u : W.State) (e : End) → Ends (W.machine unlimited w⁺) e u → W.step unlimited w⁺ u ≡ none =
+      ended-stops (W.machine unlimited w⁺) (word-live unlimited w⁺) in
       let same : (m ≡ m′) × (t ≡ t′) = only-end g g′ (stops t Halted h) (stops t′ Halted h′) in
       subst (λ k. Tidied p (word b) v c s k t) (sym (same .0)) (subst (Tidied p (word b) v c s m′) (sym (same .1)) r)
 
   -- Where the tidy word halts the longer program halts, so the program stops, which it does only where it halts
-  only : (m : ℕ) (t : W.State) → WordRun (tidy-word b) (fresh-word (variables (lines b)) v) m t
-      → Ends (W.machine unlimited (tidy-word b)) Halted t
-      → (c : ℕ) × (s : State) × SourceRun (lines b) (fresh-source v) c s × Ends (S.machine unlimited (lines b)) Halted s
-      × Tidied (lines b) (word b) v c s m t
+  only : (m : ℕ) (t : W.State) → WordRun w⁺ start m t → HasHalted t
+      → (c : ℕ) × (s : State) × SourceRun p (fresh-source v) c s × Ends (S.machine unlimited p) Halted s × Tidied p (word b) v c s m t
   only m t g h =
       let d : _ = demand .only m t (there m t g) h in
       let over : S.step unlimited p⁺ (d .1) ≡ none =

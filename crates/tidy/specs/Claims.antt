@@ -24,7 +24,7 @@ pub record Tidied (p : List Command) (w : List Instruction) (v : ℕ → ℕ) (c
   pub plain-holds : HoldsValues (variables p) s plain-end
   -- "its steps are the plain word's plus these charges"
   pub steps : m ≡ 1 + c + tidy-charges (variables p) (plain-end .registers)
-  -- "at the end it always has a value, as many 1s as X0 (none if K is 0)": what the plain word leaves in register 1
+  -- "at the end it always has a value, as many 1s as X0 (none if K is 0)", which is what the plain word leaves in register 1
   pub value : HasValue (t .registers) (holding (variables p) (s .values) 1)
 
 -- Of a program p whose variables start at v, its plain word w and its tidy word w⁺
@@ -57,7 +57,7 @@ abbrev pub TidyChargesByValues : Type 0
 TidyChargesByValues =
     (K : ℕ) (s : S.State) (t : W.State) → HoldsValues K s t → tidy-charges K (t .registers) ≡ clear-charges K (s .values)
 
--- "none if K is 0": where there is one variable or none, nothing is cleared
+-- With one variable or none there is nothing to clear
 abbrev pub TidyNothingToClear : Type 0
 TidyNothingToClear = (p : List Command) → Accepted p → variables p ≤ 1 → tidy-word-of p ≡ word-of p
 
