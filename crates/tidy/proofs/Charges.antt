@@ -21,9 +21,9 @@ held : (K : ℕ) (v : ℕ → ℕ) (i : ℕ) → i < K → length (holding K v (
 held K v i h = ap (λ t. length (cond t (ones (v i)) [])) (lt-ltb i K h) ∙ length-replicate (v i) one
 
 -- by the number n of registers reckoned in
-pub charges-by-values : TidyChargesByValues
+pub tidy-charges-by-values : TidyChargesByValues
 unfolding tidy-charges clear-charges
-charges-by-values K s t h = go K (omega arith)
+tidy-charges-by-values K s t h = go K (omega arith)
   where
     go : (n : ℕ) → n ≤ K → tidy-charges n (t .registers) ≡ clear-charges n (s .values)
     go zero l = refl

@@ -31,7 +31,7 @@ use Rattle.tidy.specs.Claims.{Tidied, TidyDemand, TidyDemandOfBlocks, Ti
 use Rattle.tidy.proofs.Longer.{Stops, runs-on, stops-too}
 use Rattle.tidy.proofs.Clears.{followed-by, lines-followed, code-followed, clear-lines, clears-length, variables-same, clears-code}
 use Rattle.tidy.proofs.Clears.{Cleared, clears-run}
-use Rattle.tidy.proofs.Charges.{none-as-one, charges-by-values}
+use Rattle.tidy.proofs.Charges.{none-as-one, tidy-charges-by-values}
 
 -- Where variables 1 to K - 1 are 0, registers from 2 on are empty
 others-empty : (K : ℕ) (v : ℕ → ℕ) → ((j : ℕ) → 0 < j → j ≤ pred K → v j ≡ 0) → (r : ℕ) → 1 < r → holding K v r ≡ []
@@ -115,7 +115,7 @@ module _ (b : Block) (v : ℕ → ℕ) where
           plain-run = plain .1;
           plain-halted = plain .2;
           plain-holds = plain .3;
-          steps = omega (arith, charges-by-values K s (plain .0) (plain .3), none-as-one K (s .values));
+          steps = omega (arith, tidy-charges-by-values K s (plain .0) (plain .3), none-as-one K (s .values));
           value = (
             held 1 (omega arith) ∙ ap (λ y. cond (ltb 0 K) (ones y) []) (r .first),
             λ n l. held n (omega arith) ∙ others-empty K (u .values) (r .empty) n l,
