@@ -10,6 +10,7 @@ use Rattle.theory.specs.Word.{Instruction, entry-of, spell-entries}
 use Rattle.theory.specs.Translation.{clearing, plain-code}
 use Rattle.theory.proofs.Sizes.{weight-append}
 use Rattle.tidy.specs.Forms.{clears}
+use Rattle.tidy.proofs.Sizes.{clears-short, clears-light}
 use Rattle.emit.specs.Pieces.{plain-of, Written}
 use Rattle.emit.proofs.Puts.{spelt-then}
 use Rattle.output.specs.Puts.{most}
@@ -33,17 +34,6 @@ clears-more K (suc n) l =
 pub clears-none : clears 0 ≡ []
 unfolding clears
 clears-none = refl
-
-pub clears-short : (n : ℕ) → n ≤ 255 → (length (clears n) ≤ 3 * n) × (symbols-of (clears n) ≤ 272 * n)
-unfolding clears
-clears-short zero l = (omega arith, omega arith)
-clears-short (suc zero) l = (omega arith, omega arith)
-clears-short (suc (suc n)) l =
-    let before = clears-short (suc n) (omega arith) in
-    let last = clearing (suc (suc n)) in (
-      omega (arith, before .0, length-append (clears (suc n)) last),
-      omega (arith, before .1, weight-append (clears (suc n)) last),
-    )
 
 -- The clears of the variables before i have been passed, of K
 pub record Passed (K i : ℕ) : Type 0 where
@@ -90,9 +80,10 @@ module _ (K : ℕ) where
     -- without wrapping
     pub counted-room : K ≤ 255 → (n + line .instructions ≤ 1000) × (s + line .symbols ≤ 100000)
     counted-room k =
-        let next = counted-more .are in
-        let short = clears-short (i + 1) (omega arith) in
-        (omega (arith, ap (λ z. z .instructions) next, short .0), omega (arith, ap (λ z. z .symbols) next, short .1))
+        let next = counted-more .are in (
+          omega (arith, ap (λ z. z .instructions) next, clears-short (i + 1)),
+          omega (arith, ap (λ z. z .symbols) next, clears-light 255 (i + 1) (omega arith)),
+        )
 
   pub counted-all : {i n s : ℕ} → Counted i n s → K ≤ i → record { instructions = n; symbols = s } ≡ length-of (clears K)
   counted-all c l = c .are ∙ ap {B = Length} length-of (passed-all (c .passed) l)

@@ -1,24 +1,23 @@
 -- The word of a form is the plain word and what the form adds.
-use mathlib.Core.Path.{_≡_, refl, sym, ap, _∙_}
+use mathlib.Core.Path.{_≡_, refl, sym}
 use mathlib.Core.List.{List, _++_, append-nil}
 use Prim.Native.Nat.{ℕ, _≤_}
 use native.Mathlib.Omega.{arith}
-use Rattle.theory.specs.ProgramText.{Command, variables, block-of}
+use Rattle.theory.specs.ProgramText.{Command, variables}
 use Rattle.theory.specs.Word.{spell, bytes-of}
 use Rattle.theory.specs.Translation.{word-of, word-text}
 use Rattle.theory.specs.Claims.{Accepted}
-use Rattle.theory.proofs.Nesting.{well-nested}
 use Rattle.tidy.specs.declared.Form.{Form}
 use Rattle.tidy.specs.declared.Form.the-variants.{Plain, Tidy}
-use Rattle.tidy.specs.Forms.{clears, tidy-word, tidy-word-of, tidy-text, word-in, text-in}
+use Rattle.tidy.specs.Forms.{tidy-text, word-in, text-in}
+use Rattle.tidy.proofs.Sizes.{clears-light}
+use Rattle.tidy.proofs.Tidy.{tidy-word-is}
 use Rattle.lengths.specs.Lengths.{symbols-of}
 use Rattle.forms.specs.Added.{added}
-use Rattle.forms.proofs.Clears.{clears-short}
 
 pub word-added : (form : Form) (p : List Command) → Accepted p → word-in form p ≡ word-of p ++ added form (variables p)
-unfolding tidy-word-of tidy-word word-of
 word-added Plain p ok = sym (append-nil (word-of p))
-word-added Tidy p ok = ap (λ q. word-of p ++ clears (variables q)) (well-nested p ok)
+word-added Tidy p ok = tidy-word-is p ok
 
 pub text-spelled : (form : Form) (p : List Command) → text-in form p ≡ bytes-of (spell (word-in form p))
 unfolding word-text tidy-text
@@ -28,4 +27,4 @@ text-spelled Tidy p = refl
 -- It is short, so that sums with it do not wrap
 pub added-light : (form : Form) (K : ℕ) → K ≤ 255 → symbols-of (added form K) ≤ 69360
 added-light Plain K h = omega arith
-added-light Tidy K h = omega (arith, clears-short K h .1)
+added-light Tidy K h = omega (arith, clears-light 255 K h)

@@ -2,6 +2,7 @@
 use mathlib.Core.Path.{_≡_}
 use mathlib.Core.List.{List, _++_}
 use Prim.Native.Nat.{ℕ, zero, suc, _+_, _*_, _≤_}
+use native.Mathlib.Nat.{suc-mul}
 use native.Mathlib.Omega.{arith}
 use lib.ListN.{length, length-append}
 use Rattle.theory.specs.Basics.{EachOf}
@@ -16,18 +17,21 @@ use Rattle.tidy.specs.Forms.{clears, tidy-word-of, tidy-text}
 use Rattle.tidy.specs.Claims.{TidyWordsFit}
 use Rattle.tidy.proofs.Tidy.{tidy-word-is}
 
-clears-short : (K : ℕ) → length (clears K) ≤ 3 * K
+pub clears-short : (K : ℕ) → length (clears K) ≤ 3 * K
 unfolding clears
 clears-short zero = omega arith
 clears-short (suc zero) = omega arith
 clears-short (suc (suc n)) = omega (arith, length-append (clears (suc n)) (clearing (suc (suc n))), clears-short (suc n))
 
-clears-light : (K : ℕ) → K ≤ 32 → weight (clears K) ≤ 48 * K
+-- where K is at most `most`
+pub clears-light : (most K : ℕ) → K ≤ most → weight (clears K) ≤ K * (most + 16)
 unfolding clears
-clears-light zero h = omega arith
-clears-light (suc zero) h = omega arith
-clears-light (suc (suc n)) h =
-    omega (arith, weight-append (clears (suc n)) (clearing (suc (suc n))), clears-light (suc n) (omega arith))
+clears-light most zero h = omega arith
+clears-light most (suc zero) h = omega arith
+clears-light most (suc (suc n)) h =
+    let before : weight (clears (suc n)) ≤ suc n * (most + 16) = clears-light most (suc n) (omega arith) in
+    let next : suc (suc n) * (most + 16) ≡ suc n * (most + 16) + (most + 16) = suc-mul (suc n) (most + 16) in
+    omega (arith, weight-append (clears (suc n)) (clearing (suc (suc n))))
 
 clears-fit : (most K : ℕ) → K ≤ most → EachOf (Fits most) (clears K)
 unfolding clears
@@ -50,7 +54,7 @@ tidy-sized p a =
     rw (tidy-word-is p a)
     (record {
       some-instruction = omega (arith, longer, words-fit p a .sized .some-instruction);
-      few-symbols = omega (arith, spelled w, heavier, limits .0, clears-light K few);
+      few-symbols = omega (arith, spelled w, heavier, limits .0, clears-light 32 K few);
       few-instructions = omega (arith, longer, limits .1, clears-short K);
       operands-from-1 = each-map (Fits (K + 17)) (λ i. 1 ≤ operand i) (λ i f. f .operand) w fit;
       low-registers = each-map (Fits (K + 17)) (NamesAtMost (K + 17)) (λ i f. f .register) w fit;
