@@ -118,7 +118,7 @@ module _ (b : Block) (v : ℕ → ℕ) where
           steps = omega (arith, tidy-charges-by-values K s (plain .0) (plain .3), none-as-one K (s .values));
           value = (
             held 1 (omega arith) ∙ ap (λ y. cond (ltb 0 K) (ones y) []) (r .first),
-            λ n l. held n (omega arith) ∙ others-empty K (u .values) (r .empty) n l,
+            λ n l. held n (omega arith) ∙ others-empty K (u .values) (r .empty) n (omega arith),
           );
         },
       )
