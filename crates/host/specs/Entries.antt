@@ -7,10 +7,11 @@ use Rattle.theory.specs.TurnedDown.{write-word-into, translate-into, run-on}
 use Rattle.theory.specs.Text.{Bytes}
 use Rattle.theory.specs.ProgramText.{Command, list-of}
 use Rattle.theory.specs.Word.{Entry}
-use Rattle.theory.specs.Translation.{word-text}
 use Rattle.theory.specs.Machines.{Memory}
 use Rattle.theory.specs.TurnedDown.{Answer, after, mapped, lent-after, read-program-into, write-program-into, read-word-into}
 use Rattle.theory.specs.declared.Setting.{Setting}
+use Rattle.tidy.specs.declared.Form.{Form}
+use Rattle.tidy.specs.Forms.{text-in}
 use Rattle.word.specs.Answers as Words
 use Rattle.states.specs.Numbers.{run-numbers, LentAfter}
 use Rattle.memory.specs.Calls.{position, answered}
@@ -27,10 +28,10 @@ pub record WritesProgram (σ : Setting) (list : List ℕ) (text : Bytes) (r : �
   pub result : r ≡ packed count (write-program-into σ text list)
   pub text-after : text′ ≡ lent-after text (write-program-into σ text list)
 
--- A program handed in as A, translated into a lent word: the word's instructions and symbols
-pub record Translates (A : Answer (List Command)) (word : Bytes) (r : ℕ) (word′ : Bytes) : Type 0 where
-  pub result : r ≡ packed sizes (translate-into word A)
-  pub word-after : word′ ≡ lent-after word (mapped word-text (translate-into word A))
+-- A program handed in as A, translated in a form into a lent word: the word's instructions and symbols
+pub record Translates (form : Form) (A : Answer (List Command)) (word : Bytes) (r : ℕ) (word′ : Bytes) : Type 0 where
+  pub result : r ≡ packed (sizes form) (translate-into (text-in form) word A)
+  pub word-after : word′ ≡ lent-after word (mapped (text-in form) (translate-into (text-in form) word A))
 
 -- A program handed in as A, run from a state that is lent as 51 numbers: how the run ended, with its steps; and the numbers then
 pub record RunsSource (A : Answer (List Command)) (numbers : List ℕ) (budget r : ℕ) (numbers′ : List ℕ) : Type 0 where

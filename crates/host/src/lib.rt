@@ -5,16 +5,17 @@ use memory::Position;
 ghost use mathlib.Core.Path.{_≡_};
 ghost use Rattle.theory.specs.TurnedDown.{read-text-under, read-list-under, read-word-for, read-table-for};
 ghost use Rattle.word.specs.Answers.{zipped};
-ghost use Rattle.packing.specs.Packed.{setting-of};
+ghost use Rattle.packing.specs.Packed.{setting-of, form-of, packed, symbols};
+ghost use Rattle.memory.specs.Calls.{value-of};
 ghost use Rattle.host.specs.Entries.{ReadsProgram, WritesProgram, Translates, RunsSource};
 ghost use Rattle.host.specs.Entries.{ReadsWord, WritesWord, RunsOn, lent, stands-at};
 
 // The version of these entries.
 #[no_mangle]
 pub extern "C" fn mudzkvopi_version() -> u32
-    ensures { λ r. ⌜ r ≡ 2 ⌝ }
+    ensures { λ r. ⌜ r ≡ 3 ⌝ }
 {
-    2
+    3
 }
 
 // A text read into a lent list of three numbers a command: rules 1 to 8 under a setting, then 19.
@@ -33,20 +34,29 @@ pub extern "C" fn mudzkvopi_write_program(setting: u32, list: &[u8], text: &mut 
     packing::program_written(program::write(packing::setting(setting), list, &mut *text))
 }
 
-// A program handed in as text, translated into a lent word: rules 1 to 8 under a setting, then 19.
+// A program handed in as text, translated in a form into a lent word: rules 1 to 8 under a setting, then 19.
 #[no_mangle]
-pub extern "C" fn mudzkvopi_translate(setting: u32, text: &[u8], word: &mut [u8]) -> u64
-    ensures { λ r. ⌜ Translates (read-text-under (setting-of setting) (now (text .entry))) (now (word .entry)) r (now (word .exit)) ⌝ }
+pub extern "C" fn mudzkvopi_translate(setting: u32, form: u32, text: &[u8], word: &mut [u8]) -> u64
+    ensures { λ r. ⌜ Translates (form-of form) (read-text-under (setting-of setting) (now (text .entry))) (now (word .entry))
+        r (now (word .exit)) ⌝ }
 {
-    packing::translated(translation::translate_text(packing::setting(setting), text, &mut *word))
+    let setting = packing::setting(setting);
+    packing::translated(translation::translate_text(setting, packing::form(form), text, &mut *word))
 }
 
 // A program handed in as a list, translated so: rules 3 to 8 under a setting, then 19.
 #[no_mangle]
-pub extern "C" fn mudzkvopi_translate_list(setting: u32, list: &[u8], word: &mut [u8]) -> u64
-    ensures { λ r. ⌜ Translates (read-list-under (setting-of setting) (now (list .entry))) (now (word .entry)) r (now (word .exit)) ⌝ }
+pub extern "C" fn mudzkvopi_translate_list(
+    setting: u32,
+    form: u32,
+    list: &[u8],
+    word: &mut [u8],
+) -> u64
+    ensures { λ r. ⌜ Translates (form-of form) (read-list-under (setting-of setting) (now (list .entry))) (now (word .entry))
+        r (now (word .exit)) ⌝ }
 {
-    packing::translated(translation::translate_list(packing::setting(setting), list, &mut *word))
+    let setting = packing::setting(setting);
+    packing::translated(translation::translate_list(setting, packing::form(form), list, &mut *word))
 }
 
 // A program handed in as text, run from a state of 51 numbers: rules 1 to 8 under a setting, then 9.
@@ -158,4 +168,21 @@ pub extern "C" fn mudzkvopi_run_table(
     *place = there;
     *steps = ran.position.steps;
     packing::word_ended(ended)
+}
+
+// The value that a lent machine's registers have: rule 10.
+#[no_mangle]
+pub extern "C" fn mudzkvopi_value(
+    registers: u32,
+    capacity: u32,
+    store: &[u8],
+    lengths: &[u16],
+) -> u64
+    ensures { λ r. ⌜ r ≡ packed symbols (value-of (lent registers capacity (now (store .entry)) (now (lengths .entry)))) ⌝ }
+{
+    let m = Machine {
+        registers: registers as usize,
+        capacity: capacity as usize,
+    };
+    packing::value_read(memory::value(m, store, lengths))
 }

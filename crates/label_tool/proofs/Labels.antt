@@ -17,7 +17,8 @@ use Rattle.theory.proofs.Sizes.{words-fit}
 use Rattle.output.specs.Puts.{Put}
 use Rattle.printing.specs.Lines.{Few, refusal-line}
 use Rattle.output.proofs.Puts.{put-then, sets-front}
-use Rattle.translation.specs.Answers.{translated, output, size-of}
+use Rattle.tidy.specs.declared.Form.the-variants.{Plain}
+use Rattle.translation.specs.Answers.{size-in, size-answer, translated, output}
 use Rattle.translation.specs.declared.Size.{Size}
 use Rattle.translation.specs.declared.Translated.the-variants as T
 use Rattle.label_tool.specs.Label.{label}
@@ -25,48 +26,48 @@ use Rattle.label_tool.specs.Label.{label}
 module _ (lent t : Bytes) (size : length lent ≡ 600001) where
   word-fits : (p : List Command) → read-text t ≡ done p → length (word-text p) ≤ 600000
   unfolding word-text
-  word-fits p e = omega (arith, words-fit p (reads-accepted .0 t p e) .0 .few-symbols, length-map (spell (word-of p)) byte-of)
+  word-fits p e = omega (arith, words-fit p (reads-accepted .0 t p e) .sized .few-symbols, length-map (spell (word-of p)) byte-of)
 
-  translates : (p : List Command) → read-text t ≡ done p → translate-into lent (read-text t) ≡ done p
+  translates : (p : List Command) → read-text t ≡ done p → translate-into word-text lent (read-text t) ≡ done p
   unfolding translate-into rule-19
   translates p e =
       let fits : length (word-text p) ≤ length lent = omega (arith, word-fits p e) in
       rw (e, le-leb (length (word-text p)) (length lent) fits)
 
-  turned-down : (r : Refusal) → read-text t ≡ refused r → translate-into lent (read-text t) ≡ refused r
+  turned-down : (r : Refusal) → read-text t ≡ refused r → translate-into word-text lent (read-text t) ≡ refused r
   unfolding translate-into
   turned-down r e = rw e
 
   -- The buffer is as it was, and the refusal that is put is the text's
-  pub refused-put : (r : Refusal) (out after : Bytes) (k : ℕ) → T.Refused r ≡ translated (translate-into lent (read-text t))
-      → out ≡ output lent (read-text t) → Few 50 (refusal-line r) 0 out after k
+  pub refused-put : (r : Refusal) (out after : Bytes) (k : ℕ) → T.Refused r ≡ translated Plain lent (read-text t)
+      → out ≡ output Plain lent (read-text t) → Few 50 (refusal-line r) 0 out after k
       → Put (label t) 0 lent after k × (k ≤ 600001)
   unfolding label lent-after refusal-line
   refused-put r out after k h writes few = go (read-text t) refl
     where
       go : (a : Answer (List Command)) → read-text t ≡ a → Put (label t) 0 lent after k × (k ≤ 600001)
       go (refused s) e =
-          let same : T.Refused r ≡ T.Refused s = h ∙ ap translated (turned-down s e) in
+          let same : T.Refused r ≡ T.Refused s = h ∙ ap (size-answer Plain) (turned-down s e) in
           let is : s ≡ r = cc in
           let kept : out ≡ lent = writes ∙ ap {B = Bytes} (λ b. lent-after lent (mapped word-text b)) (turned-down s e) in
           (rw (e, is, ← kept) (few .put), omega (arith, few .few))
       go (done p) e =
-          let other : T.Refused r ≡ T.Done (size-of p) = h ∙ ap translated (translates p e) in
+          let other : T.Refused r ≡ T.Done (size-in Plain p) = h ∙ ap (size-answer Plain) (translates p e) in
           absurd (let z : _≡_ {A = ℕ} 0 1 = cc in omega arith)
 
   -- The word is in the buffer, and LF is put behind it: all of it has its place
-  pub word-put : (n : Size) (out after : Bytes) (k : ℕ) → T.Done n ≡ translated (translate-into lent (read-text t))
-      → out ≡ output lent (read-text t) → Put (LF ∷ []) (n .symbols) out after k → Put (label t) 0 lent after k × (k ≤ 600001)
+  pub word-put : (n : Size) (out after : Bytes) (k : ℕ) → T.Done n ≡ translated Plain lent (read-text t)
+      → out ≡ output Plain lent (read-text t) → Put (LF ∷ []) (n .symbols) out after k → Put (label t) 0 lent after k × (k ≤ 600001)
   unfolding label lent-after
   word-put n out after k h writes put = go (read-text t) refl
     where
       go : (a : Answer (List Command)) → read-text t ≡ a → Put (label t) 0 lent after k × (k ≤ 600001)
       go (refused s) e =
-          let other : T.Done n ≡ T.Refused s = h ∙ ap translated (turned-down s e) in
+          let other : T.Done n ≡ T.Refused s = h ∙ ap (size-answer Plain) (turned-down s e) in
           absurd (let z : _≡_ {A = ℕ} 0 1 = cc in omega arith)
       go (done p) e =
-          let same : T.Done n ≡ T.Done (size-of p) = h ∙ ap translated (translates p e) in
-          let known : n ≡ size-of p = cc in
+          let same : T.Done n ≡ T.Done (size-in Plain p) = h ∙ ap (size-answer Plain) (translates p e) in
+          let known : n ≡ size-in Plain p = cc in
           let symbols : n .symbols ≡ length (word-text p) = ap (λ m. m .symbols) known in
           let fits : length (word-text p) ≤ length lent = omega (arith, word-fits p e) in
           let whole : out ≡ word-text p ++ drop (length (word-text p)) lent

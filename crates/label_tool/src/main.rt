@@ -4,6 +4,7 @@ use libc::STDOUT_FILENO;
 use output::put_byte;
 use printing::put_refusal;
 use theory::Setting;
+use tidy::Form;
 use translation::Translated;
 ghost use mathlib.Core.Path.{_≡_};
 ghost use Prim.Native.Nat.{_≤_};
@@ -17,7 +18,7 @@ fn put_label(text: &[u8], out: &mut [u8]) -> usize
     ensures { λ r. ⌜ Put (label (now (text .entry))) 0 (now (out .entry)) (now (out .exit)) r ⌝ }
     ensures { λ r. ⌜ r ≤ 600001 ⌝ }
 {
-    match translation::translate_text(Setting::Any, text, &mut *out) {
+    match translation::translate_text(Setting::Any, Form::Plain, text, &mut *out) {
         Translated::Done(size) => put_byte(&mut *out, size.symbols, b'\n'),
         Translated::Refused(r) => put_refusal(&mut *out, r),
     }

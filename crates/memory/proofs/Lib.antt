@@ -1,5 +1,6 @@
 pub mod Places
 pub mod Rule10
+pub mod Rest
 pub mod RegisterOne
 pub mod Values
 pub mod Filling

@@ -1,23 +1,26 @@
--- Register 1 of a good memory stands in the first bytes of the store.
+-- The value that a good memory's registers have: register 1 stands in the first bytes of the store, and the lengths tell what is empty.
 use mathlib.Core.Path.{_≡_, sym, ap, _∙_}
 use mathlib.Core.Bool.{true, false}
 use mathlib.Core.List.{List}
-use Prim.Native.Nat.{ℕ, _≤_, _<_}
+use Prim.Native.Nat.{ℕ, suc, _+_, _-_, _≤_, _<_}
 use native.Mathlib.Nat.{zero-mul}
 use native.Mathlib.Omega.{arith}
 use borrow.Author.Tests.{leb-true}
-use lib.Dec.{leb}
+use lib.Dec.{eqb, leb}
 use lib.ListN.{length, take, drop, getD}
 use lib.Seq.{take-take}
+use Rattle.theory.specs.Basics.{all-below}
 use Rattle.theory.specs.Text.{Bytes}
 use Rattle.theory.specs.Word.{Symbol, bytes-of}
-use Rattle.theory.specs.Machines.{Memory, contents, laid, is-memory, offset, place-of}
+use Rattle.theory.specs.Machines.{Memory, contents, laid, is-memory, offset, place-of, is-tidy}
 use Rattle.theory.specs.TurnedDown.{rule-10}
 use Rattle.theory.proofs.Faults.{and-first}
 use Rattle.theory.proofs.GoodMemory.{Good, memory-is-good, length-contents, contents-laid, contents-fit, take-laid, offset-suc}
+use Rattle.theory.proofs.Values.{all-below-same}
 use Rattle.memory.specs.declared.answers.Value.{Value}
 use Rattle.memory.specs.declared.answers.Value.the-variants as Value
 use Rattle.memory.specs.Calls.{Valued}
+use Rattle.memory.specs.Held.{rest-empty}
 
 pub value-refused : (m : Memory) → is-memory m ≡ false → Valued m (Value.Refused (record { number = 10; place = 0 }))
 unfolding rule-10
@@ -47,12 +50,26 @@ module _ (m : Memory) (h : is-memory m ≡ true) where
           ∙ ap (λ (b : Bytes). take (length xs) b) (sym (e ∙ place))
           ∙ take-laid (m .capacity) xs
 
-  pub value-read : Valued m (Value.Length (getD (m .lengths) 0 0))
+  tidy-by-lengths : is-tidy (m .count) (contents m) ≡ rest-empty (m .lengths)
+  tidy-by-lengths =
+      all-below-same (m .count - 1) (λ i. eqb (length (contents m (i + 2))) 0) (λ i. eqb (getD (m .lengths) (i + 1) 0) 0)
+      (λ i l. let two : i + 2 ≡ suc (i + 1) = omega arith in
+      ap (λ r. eqb (length (contents m r)) 0) two ∙ ap (λ n. eqb n 0) (length-contents m g (i + 1) (omega arith)))
+      ∙ ap (λ n. all-below (n - 1) (λ i. eqb (getD (m .lengths) (i + 1) 0) 0)) (sym (g .lengths))
+
+  pub value-read : rest-empty (m .lengths) ≡ true → Valued m (Value.Length (getD (m .lengths) 0 0))
   unfolding rule-10
-  value-read = record {
-    is = rw h (ap {B = Value} Value.Length value-length);
+  value-read t = record {
+    is = rw (h, tidy-by-lengths, t) (ap {B = Value} Value.Length value-length);
     bytes = λ n e. ap (λ (k : ℕ). take k (m .store)) (same n e) ∙ value-bytes;
   }
     where
       same : (n : ℕ) → Value.Length (getD (m .lengths) 0 0) ≡ Value.Length n → n ≡ length (contents m 1)
       same n e = let z : getD (m .lengths) 0 0 ≡ n = cc in sym z ∙ value-length
+
+  pub value-untidy : rest-empty (m .lengths) ≡ false → Valued m Value.Untidy
+  unfolding rule-10
+  value-untidy t = record {
+    is = rw (h, tidy-by-lengths, t);
+    bytes = λ n e. let z : _≡_ {A = ℕ} 0 1 = cc in absurd (omega arith);
+  }

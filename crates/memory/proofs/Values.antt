@@ -1,18 +1,17 @@
--- A run that says halted stands at a halted place, so that register 1 is the word's value.
+-- A run that says halted stands at a halted place, so that the word has the value of its memory.
 use mathlib.Core.Path.{_≡_, refl, sym, ap, _∙_}
 use mathlib.Core.Option.{Option, some}
-use mathlib.Core.List.{List}
 use Prim.Native.Nat.{ℕ}
 use native.Mathlib.Omega.{arith}
 use Rattle.theory.specs.Runs.{Machine, run, within}
 use Rattle.theory.specs.Word as W
-use Rattle.theory.specs.Word.{Symbol}
-use Rattle.theory.specs.Machines.{run-word, word-value, word-state}
+use Rattle.theory.specs.Machines.{contents, refilled, run-word, word-state, Value, word-value}
 use Rattle.theory.specs.declared.End.{End}
 use Rattle.theory.specs.declared.End.the-variants.{Halted, Spent, Full}
 use Rattle.theory.proofs.Budgets.{run-induction}
-use Rattle.theory.proofs.GoodMemory.{memory-stays-good}
-use Rattle.memory.specs.Values.{HaltedValue}
+use Rattle.theory.proofs.GoodMemory.{memory-is-good, contents-beyond, memory-stays-good}
+use Rattle.theory.proofs.Values.{value-same, has-value, value-held}
+use Rattle.memory.specs.Values.{HaltedValue, ValueOnASet}
 
 not-halted : (e : End) → e ≡ Halted → (e ≡ Spent → ⊥) × (e ≡ Full → ⊥)
 not-halted e h = (λ s. let z : _≡_ {A = ℕ} 0 1 = cc in omega arith, λ f. let z : _≡_ {A = ℕ} 0 1 = cc in omega arith)
@@ -29,5 +28,12 @@ ends-halted {S} M = run-induction M (λ b n s o. o .end ≡ Halted → M .ended 
 pub halted-value : HaltedValue
 unfolding word-value run-word
 halted-value w m p budget good lows names t =
+    let o = run (W.machine (within (m .capacity)) w) budget (p .steps) (word-state m p) in
     let at-end = ends-halted (W.machine (within (m .capacity)) w) budget (p .steps) (word-state m p) t in
-    rw at-end (ap {B = Option (List Symbol)} some (sym (memory-stays-good w m p budget good lows names .1 1 (omega arith))))
+    let held = memory-stays-good w m p budget good lows names .1 in
+    rw at-end (ap {B = Option Value} some (value-same (m .count) (o .state .registers) (contents (refilled m (o .state .registers)))
+    (λ r l. sym (held r l))))
+
+pub value-on-a-set : ValueOnASet
+value-on-a-set m xs good =
+    (value-held (m .count) (contents m) xs (contents-beyond m (memory-is-good m good)), has-value (m .count) (contents m) xs)

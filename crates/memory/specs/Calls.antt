@@ -7,9 +7,9 @@ use lib.ListN.{length, take}
 use Rattle.theory.specs.Text.{Bytes}
 use Rattle.theory.specs.Runs.{Outcome}
 use Rattle.theory.specs.Word as W
-use Rattle.theory.specs.Word.{Symbol, Entry, bytes-of}
+use Rattle.theory.specs.Word.{Entry, bytes-of}
 use Rattle.theory.specs.Machines as M
-use Rattle.theory.specs.Machines.{Memory, contents, refilled, is-memory, run-word}
+use Rattle.theory.specs.Machines.{Memory, contents, refilled, is-memory, run-word, value-at}
 use Rattle.theory.specs.TurnedDown.{Answer, done, refused, answer, run-on}
 use Rattle.theory.specs.TurnedDown.{mapped, rule-10, instructions}
 use Rattle.theory.specs.TurnedDown.{read-word-for, read-table-for}
@@ -85,12 +85,13 @@ word-called m p budget word = answered m p (run-on m (position p) budget (read-w
 unfoldable pub table-called : Memory → Position → ℕ → List Entry → Called
 table-called m p budget t = answered m p (run-on m (position p) budget (read-table-for (m .count) t))
 
--- "The value of a halted word is register 1": rule 10, and what the register holds
-abbrev pub value-of : Memory → Answer (List Symbol)
-value-of m = mapped (λ n. contents n 1) (answer (rule-10 m) m)
+-- The value of a halted word: rule 10, and then by what the registers hold. Nothing is told of the place
+abbrev pub value-of : Memory → Answer M.Value
+value-of m = mapped (λ n. value-at (n .count) (contents n)) (answer (rule-10 m) m)
 
-abbrev pub value-answer : Answer (List Symbol) → Value
-value-answer (done xs) = Value.Length (length xs)
+abbrev pub value-answer : Answer M.Value → Value
+value-answer (done (M.valued xs)) = Value.Length (length xs)
+value-answer (done M.untidy) = Value.Untidy
 value-answer (refused r) = Value.Refused r
 
 -- The answer, and what stands in as many of the store's first bytes

@@ -71,9 +71,10 @@ pub struct Run {
     pub ended: Ended,
 }
 
-// The value of a halted word: register 1, which is the first so many bytes of the store; or why the call is turned down. Of a word that is
-// not halted this is what register 1 holds so far.
+// The value of a halted word: register 1, which is the first so many bytes of the store, where every other register is empty; else it is
+// untidy. Or why the call is turned down. Of a word that is not halted this tells what its registers hold so far.
 pub enum Value {
     Length(usize),
+    Untidy,
     Refused(Refusal),
 }

@@ -10,20 +10,39 @@ pub use answers::Position;
 pub use answers::Run;
 pub use answers::Value;
 pub use checks::is_memory;
+ghost use mathlib.Core.Path.{_≡_};
 ghost use Rattle.memory.specs.Calls.{memory, Valued};
+ghost use Rattle.memory.specs.Held.{rest-empty};
 use crate::checks::wide;
 use theory::Refusal;
 
-// Register 1, the value of a halted word: rule 10.
+// Whether every register but the first is empty, by their lengths.
+fn is_tidy(lengths: &[u16]) -> bool
+    ensures { λ r. ⌜ r ≡ rest-empty (now (lengths .entry)) ⌝ }
+{
+    let mut i: usize = 1;
+    while i < lengths.len() {
+        if lengths[i] != 0 {
+            return false;
+        }
+        i += 1;
+    }
+    true
+}
+
+// The value of a halted word: rule 10, and register 1 where every other register is empty.
 pub fn value(m: Machine, store: &[u8], lengths: &[u16]) -> Value
     ensures { λ r. ⌜ Valued (memory m (now (store .entry)) (now (lengths .entry))) r ⌝ }
 {
-    if is_memory(m, store, lengths) {
-        Value::Length(wide(lengths[0]))
-    } else {
-        Value::Refused(Refusal {
+    if !is_memory(m, store, lengths) {
+        return Value::Refused(Refusal {
             number: 10,
             place: 0,
-        })
+        });
+    }
+    if is_tidy(lengths) {
+        Value::Length(wide(lengths[0]))
+    } else {
+        Value::Untidy
     }
 }

@@ -1,20 +1,21 @@
 -- Every answer of an entry fits its bits.
-use mathlib.Core.Path.{_≡_, refl}
-use mathlib.Core.Bool.{Bool, true, false}
+use mathlib.Core.Path.{_≡_, refl, ap, _∙_}
+use mathlib.Core.Bool.{Bool, true, false, cond}
 use mathlib.Core.Option.{Option, none, some}
 use mathlib.Core.List.{List, map}
 use Prim.Native.Nat.{ℕ, _≤_, _<_, _^_}
 use native.Mathlib.Omega.{arith}
 use lib.Dec.{leb}
+use borrow.Author.Tests.{leb-true}
 use lib.ListN.{length, length-map}
 use Rattle.theory.specs.Text.{Bytes}
-use Rattle.theory.specs.ProgramText.{Command, text-of, list-of, listed, commands}
+use Rattle.theory.specs.ProgramText.{Command, variables, text-of, list-of, listed, commands}
 use Rattle.theory.specs.Runs.{Outcome}
 use Rattle.theory.specs.Source as S
 use Rattle.theory.specs.Word as W
 use Rattle.theory.specs.Word.{Entry, byte-of, bytes-of, spell, spell-entries}
-use Rattle.theory.specs.Translation.{word-of, word-text}
-use Rattle.theory.specs.Machines.{SourceState, Memory, Position, is-memory, run-source, run-word}
+use Rattle.theory.specs.Machines.{SourceState, Memory, Position, contents, is-memory, run-source, run-word}
+use Rattle.theory.specs.Machines.{valued, untidy, is-tidy, value-at}
 use Rattle.theory.specs.TurnedDown.{Answer, refused, unless, answer, after, mapped, lend, is-source}
 use Rattle.theory.specs.TurnedDown.{rule-9, rule-10, rule-15, rule-19}
 use Rattle.theory.specs.TurnedDown.{text-fault-under, text-lines, program-fault-under, word-fault, word-entries, table-fault, instructions}
@@ -23,7 +24,7 @@ use Rattle.theory.specs.TurnedDown.{read-table-for}
 use Rattle.theory.specs.TurnedDown.{read-program-into, write-program-into, translate-into, run-from}
 use Rattle.theory.specs.TurnedDown.{read-word-into, write-word-into, run-on}
 use Rattle.theory.specs.Basics.{or-else, present}
-use Rattle.theory.specs.Claims.{Accepted}
+use Rattle.theory.specs.Claims.{Accepted, FitsASet}
 use Rattle.theory.specs.declared.End.{End}
 use Rattle.theory.specs.declared.End.the-variants.{Halted, Strayed, Spent, Full}
 use Rattle.theory.specs.declared.Refusal.{Refusal}
@@ -34,8 +35,16 @@ use Rattle.theory.proofs.Nesting.{reads-accepted}
 use Rattle.theory.proofs.Sizes.{words-fit}
 use Rattle.theory.proofs.Texts.{text-accepted}
 use Rattle.theory.proofs.Words.{table-good, total-length}
+use Rattle.theory.proofs.Faults.{and-first, and-second}
+use Rattle.theory.proofs.GoodMemory.{memory-is-good, contents-fit}
+use Rattle.tidy.specs.declared.Form.{Form}
+use Rattle.tidy.specs.declared.Form.the-variants.{Plain, Tidy}
+use Rattle.tidy.specs.Forms.{word-in, text-in}
+use Rattle.tidy.proofs.Sizes.{tidy-words-fit}
+use Rattle.forms.proofs.Words.{text-spelled}
+use Rattle.memory.specs.Calls.{value-of}
 use Rattle.packing.specs.Packed.{end-number}
-use Rattle.packing.specs.Claims.{Fields, Fit, fields, program-fields, word-fields, count-fields, end-fields, AnswersFit}
+use Rattle.packing.specs.Claims.{Fields, Fit, fields, program-fields, word-fields, count-fields, end-fields, value-fields, AnswersFit}
 use Rattle.packing.proofs.Bounds.{Low, low-unless, low-or, few-lines, program-low, few-bytes, text-low, few-instructions}
 use Rattle.packing.proofs.Bounds.{word-low, word-for-low, table-low, table-for-low}
 
@@ -69,19 +78,20 @@ module _ (p : List Command) (accepted : Accepted p) where
   program-fit =
       record {
         what = omega arith;
-        high = omega (arith, words-fit p accepted .0 .few-variables);
+        high = omega (arith, words-fit p accepted .sized .few-variables);
         low = omega (arith, few-lines (map some p) accepted, length-map p some);
       }
 
-  word-fit : Fit (word-fields p)
-  unfolding word-text
-  word-fit =
-      let sized = words-fit p accepted .0 in
-      record {
-        what = omega arith;
-        high = omega (arith, sized .few-instructions);
-        low = omega (arith, sized .few-symbols, length-map (spell (word-of p)) byte-of);
-      }
+  -- its word in a form fits a set
+  form-fits : (form : Form) → FitsASet (variables p) (word-in form p) (text-in form p)
+  form-fits Plain = words-fit p accepted
+  form-fits Tidy = tidy-words-fit p accepted
+
+  word-fit : (form : Form) → Fit (word-fields form p)
+  word-fit form =
+      let sized = form-fits form .sized in
+      let symbols = ap length (text-spelled form p) ∙ length-map (spell (word-in form p)) byte-of in
+      record { what = omega arith; high = omega (arith, sized .few-instructions); low = omega (arith, sized .few-symbols, symbols) }
 
 text-program : (σ : Setting) (t : Bytes) → text-fault-under σ t ≡ none → Accepted (present (text-lines t))
 unfolding read-text-under
@@ -106,19 +116,23 @@ write-program-fits σ text list =
     fit-lent (program-fault-under σ (listed list)) p text-of text (program-low σ (listed list))
     (λ e. omega (arith, few-bytes (text-of p) (text-accepted p (list-program σ list e))))
 
-translate-fits : (σ : Setting) (word text : Bytes) → Fit (fields word-fields (translate-into word (read-text-under σ text)))
-unfolding translate-into read-text-under
-translate-fits σ word text =
-    let p = present (text-lines text) in
-    fit-after word-fields (text-fault-under σ text) p (λ q. answer (rule-19 word (word-text q)) q) (text-low σ text)
-    (λ e. fit-answer word-fields (rule-19 word (word-text p)) p (no-room-low word (word-text p)) (λ f. word-fit p (text-program σ text e)))
+module _ (σ : Setting) (form : Form) (word : Bytes) where
+  -- a program that a fault turns down, or that is accepted
+  translated-fits : (o : Option Refusal) (p : List Command) → Low o → (o ≡ none → Accepted p)
+      → Fit (fields (word-fields form) (translate-into (text-in form) word (answer o p)))
+  unfolding translate-into
+  translated-fits o p low ok =
+      fit-after (word-fields form) o p (λ q. answer (rule-19 word (text-in form q)) q) low
+      (λ e. fit-answer (word-fields form) (rule-19 word (text-in form p)) p (no-room-low word (text-in form p)) (λ f. word-fit p (ok e) form))
 
-translate-list-fits : (σ : Setting) (word list : Bytes) → Fit (fields word-fields (translate-into word (read-list-under σ list)))
-unfolding translate-into read-list-under commands
-translate-list-fits σ word list =
-    let p = present (listed list) in
-    fit-after word-fields (program-fault-under σ (listed list)) p (λ q. answer (rule-19 word (word-text q)) q) (program-low σ (listed list))
-    (λ e. fit-answer word-fields (rule-19 word (word-text p)) p (no-room-low word (word-text p)) (λ f. word-fit p (list-program σ list e)))
+  translate-fits : (text : Bytes) → Fit (fields (word-fields form) (translate-into (text-in form) word (read-text-under σ text)))
+  unfolding read-text-under
+  translate-fits text = translated-fits (text-fault-under σ text) (present (text-lines text)) (text-low σ text) (text-program σ text)
+
+  translate-list-fits : (list : Bytes) → Fit (fields (word-fields form) (translate-into (text-in form) word (read-list-under σ list)))
+  unfolding read-list-under commands
+  translate-list-fits list =
+      translated-fits (program-fault-under σ (listed list)) (present (listed list)) (program-low σ (listed list)) (list-program σ list)
 
 -- Runs
 end-small : (e : End) → end-number e < 2 ^ 8
@@ -174,6 +188,26 @@ run-fits m p budget b o t l = go (is-memory m) o l
     go true none l = end-fit (run-word (instructions t) m p budget) budget b (word-steps (instructions t) m p budget)
     go true (some r) l = fit-refused (end-fields {S = W.State}) r l
 
+-- Values
+value-fits : (m : Memory) → Fit (fields value-fields (value-of m))
+unfolding rule-10
+value-fits m = go (is-memory m) refl
+  where
+    symbols-fit : is-memory m ≡ true → length (contents m 1) ≤ 1024
+    symbols-fit e =
+        let good = memory-is-good m e in
+        let some-register = leb-true 1 (m .count) (and-first (leb 1 (m .count)) (leb (m .count) 64) (good .registers)) in
+        let small = leb-true (m .capacity) 1024 (and-second (leb 1 (m .capacity)) (leb (m .capacity) 1024) (good .capacity)) in
+        omega (arith, contents-fit m good 0 some-register, small)
+
+    go : (t : Bool) → is-memory m ≡ t → Fit (fields value-fields (mapped (λ n. value-at (n .count) (contents n)) (answer (unless t 10 0) m)))
+    go true e = by-tidy (is-tidy (m .count) (contents m))
+      where
+        by-tidy : (t : Bool) → Fit (value-fields (cond t (valued (contents m 1)) untidy))
+        by-tidy true = record { what = omega arith; high = omega arith; low = omega (arith, symbols-fit e) }
+        by-tidy false = record { what = omega arith; high = omega arith; low = omega arith }
+    go false e = record { what = omega arith; high = omega arith; low = omega arith }
+
 pub answers-fit : AnswersFit
 unfolding read-text-under read-list-under commands read-word-for read-table-for
 answers-fit =
@@ -192,4 +226,5 @@ answers-fit =
           (word-entries word) (word-for-low (m .count) word);
       runs-table = λ m p budget b t. run-fits m p budget b (or-else (table-fault t) (rule-15 next-entry (m .count) t)) t
           (table-for-low (m .count) t);
+      value = value-fits;
     }

@@ -6,14 +6,17 @@ use Rattle.theory.specs.ProgramText.{Command}
 use Rattle.theory.specs.Runs.{Outcome}
 use Rattle.theory.specs.Source as S
 use Rattle.theory.specs.Word.{Entry}
+use Rattle.theory.specs.Machines.{Value, valued, untidy}
 use Rattle.theory.specs.TurnedDown.{Answer, done, refused}
 use Rattle.list.specs.Answers as Programs
 use Rattle.program.specs.Answers.{written}
 use Rattle.word.specs.Answers.{read-answer, written-answer}
-use Rattle.translation.specs.Answers as Translations
+use Rattle.tidy.specs.declared.Form.{Form}
+use Rattle.translation.specs.Answers.{size-answer}
 use Rattle.source.specs.Answers.{ended-by}
-use Rattle.packing.specs.Packed.{packed, commands, sizes, count, ending}
-use Rattle.packing.specs.Answered.{program-read, program-written, word-read, word-written, translated, source-ended}
+use Rattle.memory.specs.Calls.{value-answer}
+use Rattle.packing.specs.Packed.{packed, commands, sizes, count, ending, symbols}
+use Rattle.packing.specs.Answered.{program-read, program-written, word-read, word-written, translated, source-ended, value-read}
 
 pub packs-program-read : (a : Answer (List Command)) → program-read (Programs.checked a) ≡ packed commands a
 unfolding packed
@@ -35,12 +38,18 @@ unfolding packed
 packs-word-written (done w) = refl
 packs-word-written (refused r) = refl
 
-pub packs-translated : (a : Answer (List Command)) → translated (Translations.translated a) ≡ packed sizes a
+pub packs-translated : (form : Form) (a : Answer (List Command)) → translated (size-answer form a) ≡ packed (sizes form) a
 unfolding packed
-packs-translated (done p) = refl
-packs-translated (refused r) = refl
+packs-translated form (done p) = refl
+packs-translated form (refused r) = refl
 
 pub packs-source : (a : Answer (Outcome S.State)) → source-ended (ended-by a) ≡ packed ending a
 unfolding packed ended-by
 packs-source (done o) = refl
 packs-source (refused r) = refl
+
+pub packs-value : (a : Answer Value) → value-read (value-answer a) ≡ packed symbols a
+unfolding packed
+packs-value (done (valued xs)) = refl
+packs-value (done untidy) = refl
+packs-value (refused r) = refl

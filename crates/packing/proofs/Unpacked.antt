@@ -1,4 +1,4 @@
--- Every number tells a setting, and nothing is cut where an answer is packed.
+-- Every number tells a setting and a form, and nothing is cut where an answer is packed.
 use mathlib.Core.Path.{_≡_, refl}
 use Prim.Native.Nat.{ℕ, suc, _+_, _*_, _/_, _%_, _^_, _<_}
 use native.Mathlib.Omega.{arith}
@@ -6,14 +6,19 @@ use borrow.Author.Tests.{ne-eqb}
 use mathlib.Core.List.{List}
 use Rattle.theory.specs.ProgramText.{Command}
 use Rattle.theory.specs.Runs.{Outcome}
+use Rattle.theory.specs.Machines.{Value, valued, untidy}
 use Rattle.theory.specs.TurnedDown.{Answer, done, refused}
 use Rattle.theory.specs.declared.Refusal.{Refusal}
-use Rattle.packing.specs.Packed.{pack, packed, commands, sizes, count, ending}
-use Rattle.packing.specs.Claims.{SettingsTold, Fields, Fit, unpack, NothingCut, ReadsBack}
-use Rattle.packing.specs.Claims.{fields, program-fields, word-fields, count-fields, end-fields}
+use Rattle.tidy.specs.declared.Form.{Form}
+use Rattle.packing.specs.Packed.{pack, packed, commands, sizes, count, ending, symbols}
+use Rattle.packing.specs.Claims.{SettingsTold, FormsTold, Fields, Fit, unpack, NothingCut, ReadsBack}
+use Rattle.packing.specs.Claims.{fields, program-fields, word-fields, count-fields, end-fields, value-fields}
 
 pub settings-told : SettingsTold
 settings-told = (refl, λ n. rw (ne-eqb (suc n) 0 (λ e. omega arith)))
+
+pub forms-told : FormsTold
+forms-told = (refl, λ n other. rw (ne-eqb n 1 other))
 
 module _ (what high low : ℕ) (w : what < 2 ^ 8) (h : high < 2 ^ 16) (l : low < 2 ^ 32) where
   n : ℕ
@@ -48,10 +53,11 @@ unfolding packed
 program-back (done p) = nothing-cut (program-fields p)
 program-back (refused r) = refused-back program-fields r
 
-word-back : (a : Answer (List Command)) → Fit (fields word-fields a) → unpack (packed sizes a) ≡ fields word-fields a
+word-back : (form : Form) (a : Answer (List Command)) → Fit (fields (word-fields form) a)
+    → unpack (packed (sizes form) a) ≡ fields (word-fields form) a
 unfolding packed
-word-back (done p) = nothing-cut (word-fields p)
-word-back (refused r) = refused-back word-fields r
+word-back form (done p) = nothing-cut (word-fields form p)
+word-back form (refused r) = refused-back (word-fields form) r
 
 list-back : {A : Type 0} (a : Answer (List A)) → Fit (fields count-fields a) → unpack (packed count a) ≡ fields count-fields a
 unfolding packed
@@ -63,5 +69,11 @@ unfolding packed
 run-back (done o) = nothing-cut (end-fields o)
 run-back {S} (refused r) = refused-back (end-fields {S = S}) r
 
+value-back : (a : Answer Value) → Fit (fields value-fields a) → unpack (packed symbols a) ≡ fields value-fields a
+unfolding packed
+value-back (done (valued xs)) = nothing-cut (value-fields (valued xs))
+value-back (done untidy) = nothing-cut (value-fields untidy)
+value-back (refused r) = refused-back value-fields r
+
 pub reads-back : ReadsBack
-reads-back = record { program = program-back; word = word-back; list = list-back; run = run-back }
+reads-back = record { program = program-back; word = word-back; list = list-back; run = run-back; value = value-back }

@@ -15,6 +15,8 @@ use Rattle.source.specs.declared.answers.Ended as Source
 use Rattle.source.specs.declared.answers.Ended.the-variants as SourceEnded
 use Rattle.memory.specs.declared.answers.Ended as Machine
 use Rattle.memory.specs.declared.answers.Ended.the-variants as MachineEnded
+use Rattle.memory.specs.declared.answers.Value.{Value}
+use Rattle.memory.specs.declared.answers.Value.the-variants as Value
 use Rattle.packing.specs.Packed.{pack, end-number}
 
 abbrev pub refusal : Refusal → ℕ
@@ -47,3 +49,8 @@ source-ended (SourceEnded.Refused r) = refusal r
 abbrev pub word-ended : Machine.Ended → ℕ
 word-ended (MachineEnded.Ran end steps) = pack (end-number end) 0 steps
 word-ended (MachineEnded.Refused r) = refusal r
+
+abbrev pub value-read : Value → ℕ
+value-read (Value.Length n) = pack 0 0 n
+value-read Value.Untidy = pack 5 0 0
+value-read (Value.Refused r) = refusal r

@@ -1,6 +1,7 @@
--- Every number tells a setting, and nothing is cut where an answer is packed into one number: stated here, proved in proofs/Unpacked.antt
+-- Every number tells a setting and a form, and nothing is cut where an answer is packed into one number: stated here, proved in proofs/Unpacked.antt
 -- and proofs/Fitting.antt.
 use mathlib.Core.Path.{_≡_}
+use mathlib.Core.Logic.{_≢_}
 use mathlib.Core.List.{List}
 use Prim.Native.Nat.{ℕ, suc, _/_, _%_, _^_, _<_}
 use lib.ListN.{length}
@@ -8,18 +9,25 @@ use Rattle.theory.specs.Text.{Bytes}
 use Rattle.theory.specs.ProgramText.{Command, variables}
 use Rattle.theory.specs.Runs.{Outcome}
 use Rattle.theory.specs.Word.{Entry}
-use Rattle.theory.specs.Translation.{word-of, word-text}
-use Rattle.theory.specs.Machines.{SourceState, Memory, Position}
+use Rattle.theory.specs.Machines.{SourceState, Memory, Position, Value, valued, untidy}
 use Rattle.theory.specs.TurnedDown.{Answer, done, refused, read-text-under, read-list-under, read-word-for, read-table-for}
 use Rattle.theory.specs.TurnedDown.{read-program-into, write-program-into, translate-into, run-program}
 use Rattle.theory.specs.TurnedDown.{read-word-into, write-word-into, run-on}
 use Rattle.theory.specs.declared.Setting.{Setting}
 use Rattle.theory.specs.declared.Setting.the-variants.{Any, LoopOnly}
-use Rattle.packing.specs.Packed.{setting-of, pack, end-number, packed, commands, sizes, count, ending}
+use Rattle.tidy.specs.declared.Form.{Form}
+use Rattle.tidy.specs.declared.Form.the-variants.{Plain, Tidy}
+use Rattle.tidy.specs.Forms.{word-in, text-in}
+use Rattle.memory.specs.Calls.{value-of}
+use Rattle.packing.specs.Packed.{setting-of, form-of, pack, end-number, packed, commands, sizes, count, ending, symbols}
 
 -- 0 is outside the LOOP-only setting, and every other number is under it
 abbrev pub SettingsTold : Type 0
 SettingsTold = (setting-of 0 ≡ Any) × ((n : ℕ) → setting-of (suc n) ≡ LoopOnly)
+
+-- 1 is the tidy form, and every other number the plain one
+abbrev pub FormsTold : Type 0
+FormsTold = (form-of 1 ≡ Tidy) × ((n : ℕ) → n ≢ 1 → form-of n ≡ Plain)
 
 -- What a number says, field by field, as the header reads it: bits 56 to 63, bits 32 to 47, bits 0 to 31
 pub record Fields : Type 0 where
@@ -48,8 +56,8 @@ fields f (refused r) = record { what = 255; high = r .number; low = r .place }
 abbrev pub program-fields : List Command → Fields
 program-fields p = record { what = 0; high = variables p; low = length p }
 
-abbrev pub word-fields : List Command → Fields
-word-fields p = record { what = 0; high = length (word-of p); low = length (word-text p) }
+abbrev pub word-fields : Form → List Command → Fields
+word-fields form p = record { what = 0; high = length (word-in form p); low = length (text-in form p) }
 
 abbrev pub count-fields : {A : Type 0} → List A → Fields
 count-fields l = record { what = 0; high = 0; low = length l }
@@ -57,20 +65,28 @@ count-fields l = record { what = 0; high = 0; low = length l }
 abbrev pub end-fields : {S : Type 0} → Outcome S → Fields
 end-fields o = record { what = end-number (o .end); high = 0; low = o .steps }
 
+abbrev pub value-fields : Value → Fields
+value-fields (valued xs) = record { what = 0; high = 0; low = length xs }
+value-fields untidy = record { what = 5; high = 0; low = 0 }
+
 -- An answer that fits is read back from its number
 pub record ReadsBack : Type 1 where
   pub program : (a : Answer (List Command)) → Fit (fields program-fields a) → unpack (packed commands a) ≡ fields program-fields a
-  pub word : (a : Answer (List Command)) → Fit (fields word-fields a) → unpack (packed sizes a) ≡ fields word-fields a
+  pub word : (form : Form) (a : Answer (List Command)) → Fit (fields (word-fields form) a)
+      → unpack (packed (sizes form) a) ≡ fields (word-fields form) a
   pub list : {A : Type 0} (a : Answer (List A)) → Fit (fields count-fields a) → unpack (packed count a) ≡ fields count-fields a
   pub run : {S : Type 0} (a : Answer (Outcome S)) → Fit (fields end-fields a) → unpack (packed ending a) ≡ fields end-fields a
+  pub value : (a : Answer Value) → Fit (fields value-fields a) → unpack (packed symbols a) ≡ fields value-fields a
 
--- Every answer of an entry fits: of programs handed in as text or as list under a setting, of words and tables, and of runs whose budget
--- has 32 bits
+-- Every answer of an entry fits: of programs handed in as text or as list under a setting, in a form where they are translated, of words
+-- and tables, of runs whose budget has 32 bits, and of values
 pub record AnswersFit : Type 0 where
   pub read-program : (σ : Setting) (list text : Bytes) → Fit (fields program-fields (read-program-into σ list text))
   pub write-program : (σ : Setting) (text list : Bytes) → Fit (fields count-fields (write-program-into σ text list))
-  pub translate : (σ : Setting) (word text : Bytes) → Fit (fields word-fields (translate-into word (read-text-under σ text)))
-  pub translate-list : (σ : Setting) (word list : Bytes) → Fit (fields word-fields (translate-into word (read-list-under σ list)))
+  pub translate : (σ : Setting) (form : Form) (word text : Bytes)
+      → Fit (fields (word-fields form) (translate-into (text-in form) word (read-text-under σ text)))
+  pub translate-list : (σ : Setting) (form : Form) (word list : Bytes)
+      → Fit (fields (word-fields form) (translate-into (text-in form) word (read-list-under σ list)))
   pub runs-text : (σ : Setting) (s : SourceState) (budget : ℕ) → budget < 2 ^ 32 → (text : Bytes)
       → Fit (fields end-fields (run-program (read-text-under σ text) s budget))
   pub runs-list : (σ : Setting) (s : SourceState) (budget : ℕ) → budget < 2 ^ 32 → (list : Bytes)
@@ -81,3 +97,4 @@ pub record AnswersFit : Type 0 where
       → Fit (fields end-fields (run-on m p budget (read-word-for (m .count) word)))
   pub runs-table : (m : Memory) (p : Position) (budget : ℕ) → budget < 2 ^ 32 → (table : List Entry)
       → Fit (fields end-fields (run-on m p budget (read-table-for (m .count) table)))
+  pub value : (m : Memory) → Fit (fields value-fields (value-of m))

@@ -1,12 +1,13 @@
-// Numbers for the C host (specs/Packed). A setting is told by one, and an answer is one: what came of a call, with its counts, or with a
-// refusal's number and place.
+// Numbers for the C host (specs/Packed). A setting and a form are told by one each, and an answer is one: what came of a call, with its
+// counts, or with a refusal's number and place.
 use theory::End;
 use theory::Refusal;
 use theory::Setting;
+use tidy::Form;
 ghost use mathlib.Core.Path.{_≡_};
-ghost use Rattle.packing.specs.Packed.{setting-of, pack, end-number};
+ghost use Rattle.packing.specs.Packed.{setting-of, form-of, pack, end-number};
 ghost use Rattle.packing.specs.Answered.{program-read, program-written, word-read, word-written, translated};
-ghost use Rattle.packing.specs.Answered.{source-ended, word-ended};
+ghost use Rattle.packing.specs.Answered.{source-ended, word-ended, value-read};
 
 // The setting that a number tells. One that is not known is on the strict side.
 pub fn setting(number: u32) -> Setting
@@ -17,6 +18,13 @@ pub fn setting(number: u32) -> Setting
     } else {
         Setting::LoopOnly
     }
+}
+
+// The form that a number tells. One that is not known is the plain one.
+pub fn form(number: u32) -> Form
+    ensures { λ r. ⌜ r ≡ form-of number ⌝ }
+{
+    if number == 1 { Form::Tidy } else { Form::Plain }
 }
 
 // What came of the call in bits 56 to 63, one count in bits 32 to 47 and another in bits 0 to 31.
@@ -121,5 +129,16 @@ pub fn word_ended(run: memory::Ended) -> u64
     match run {
         memory::Ended::Ran(end, steps) => ended(end, steps),
         memory::Ended::Refused(r) => refused(r),
+    }
+}
+
+// A value, by its symbols, or untidy.
+pub fn value_read(value: memory::Value) -> u64
+    ensures { λ r. ⌜ r ≡ value-read value ⌝ }
+{
+    match value {
+        memory::Value::Length(symbols) => pack(0, 0, symbols),
+        memory::Value::Untidy => pack(5, 0, 0),
+        memory::Value::Refused(r) => refused(r),
     }
 }

@@ -1,6 +1,6 @@
 -- The kinds of example, and what each says. Its rows are in Refusals and Results.
 use mathlib.Core.Path.{_≡_}
-use mathlib.Core.Option.{Option, none, some, Option·map}
+use mathlib.Core.Option.{Option, none, some}
 use mathlib.Core.List.{List, [], _++_, map}
 use Prim.Native.Nat.{ℕ, zero, suc, _*_}
 use Prim.Native.String.{String}
@@ -8,13 +8,13 @@ use lib.IntN.{ℤ}
 use lib.ListN.{length, getD, replicate}
 use Rattle.theory.specs.Basics.{cells}
 use Rattle.theory.specs.Text.{Bytes, bytes}
-use Rattle.theory.specs.ProgramText.{indices}
-use Rattle.theory.specs.Runs.{Outcome}
+use Rattle.theory.specs.ProgramText.{Command, indices, variables}
+use Rattle.theory.specs.Runs.{Outcome, run, within}
 use Rattle.theory.specs.Source as S
 use Rattle.theory.specs.Word as W
-use Rattle.theory.specs.Word.{Entry, bytes-of}
+use Rattle.theory.specs.Word.{Entry, symbol-of}
 use Rattle.theory.specs.Translation.{charge}
-use Rattle.theory.specs.Machines.{fresh-source, SourceState, Memory, refilled, Position, word-value}
+use Rattle.theory.specs.Machines.{fresh-source, fresh-word, SourceState, Memory, refilled, Position, Value, valued, word-value}
 use Rattle.theory.specs.TurnedDown.{Answer, done, refused, mapped, lend}
 use Rattle.theory.specs.TurnedDown.{lent-after, instructions, word-entries, sheet-fault, rule-9, rule-10, read-text-under, read-list-under}
 use Rattle.theory.specs.TurnedDown.{read-text, read-list, read-word, read-table, read-word-for, read-table-for, run-program, run-on}
@@ -24,6 +24,8 @@ use Rattle.theory.specs.declared.Setting.{Setting}
 use Rattle.theory.specs.declared.Setting.the-variants.{Any, LoopOnly}
 use Rattle.theory.specs.declared.End.{End}
 use Rattle.bench.specs.Table as T
+use Rattle.tidy.specs.Forms.{word-in, text-in}
+use Rattle.tidy.specs.declared.Form.{Form}
 
 -- What a run of a source shows: its end, its steps, its line, the first so many values and passes left
 pub record SourceShown : Type 0 where
@@ -39,6 +41,11 @@ pub record WordShown : Type 0 where
   pub steps : ℕ
   pub place : ℤ
   pub memory : Memory
+
+-- The word of a program in one of its forms, and the word's run
+pub record FormShown : Type 0 where
+  pub word : Bytes
+  pub run : T.Shown
 
 pub data Example : Type 0 where
   -- what is turned down, and with what: a text, a list, a word, a table
@@ -68,8 +75,10 @@ pub data Example : Type 0 where
   -- a program's run from a state, and a word's on a memory from a position, with a budget
   runs : String → SourceState → ℕ → SourceShown → Example
   word-runs : String → Memory → Position → ℕ → WordShown → Example
-  -- the value of a word at a place, with its registers
-  valued : String → ℤ → List String → Option Bytes → Example
+  -- the value of a word at a place, on a machine of so many registers that hold these
+  value : String → ℤ → ℕ → List String → Option Value → Example
+  -- a program in a form, and its word's run from these values
+  form : Form → String → List ℕ → FormShown → Example
   -- numbers and bytes that a definition gives
   numbers : List ℕ → List ℕ → Example
   spelled : Bytes → String → Example
@@ -94,6 +103,11 @@ show-source n m o =
 unfoldable pub show-word : Memory → Outcome W.State → WordShown
 show-word m o = record { end = o .end; steps = o .steps; place = o .state .place; memory = refilled m (o .state .registers) }
 
+unfoldable pub show-form : Form → List ℕ → List Command → FormShown
+show-form f v p =
+    let start = fresh-word (variables p) (λ i. getD v i 0) in
+    record { word = text-in f p; run = T.show (length v) (run (W.machine (within 1024) (word-in f p)) T.budget 0 start) }
+
 abbrev pub Holds : Example → Type 0
 Holds (text t r) = refusal (read-text t) ≡ r
 Holds (list l r) = refusal (read-list l) ≡ r
@@ -114,8 +128,8 @@ Holds (charges t ss l) = mapped (λ p. map (λ s. charge p (s .state)) ss) (read
 Holds (runs t s budget e) =
     mapped (show-source (length (e .values)) (length (e .passes))) (run-program (read-text (bytes t)) s budget) ≡ done e
 Holds (word-runs w m p budget e) = mapped (show-word m) (run-on m p budget (read-word-for (m .count) (bytes w))) ≡ done e
-Holds (valued w q rs v) =
-    Option·map bytes-of (word-value (instructions (word-entries (bytes w))) (record { place = q; registers = T.from rs })) ≡ v
+Holds (value w q n rs v) = word-value (instructions (word-entries (bytes w))) n (record { place = q; registers = T.from rs }) ≡ v
+Holds (form f t v e) = mapped (show-form f v) (read-text (bytes t)) ≡ done e
 Holds (numbers l expected) = l ≡ expected
 Holds (spelled b expected) = b ≡ bytes expected
 Holds (prints t s out) = report t s ≡ bytes out
@@ -127,6 +141,10 @@ times (suc n) t = t ++ times n t
 
 abbrev pub passes : Option Refusal
 passes = none
+
+-- a word whose value is this
+abbrev pub has : String → Option Value
+has v = some (valued (map symbol-of (bytes v)))
 
 abbrev pub entry : ℕ → ℕ → Entry
 entry k n = record { kind = k; operand = n }

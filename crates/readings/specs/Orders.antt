@@ -4,13 +4,15 @@ use mathlib.Core.Option.{Option}
 use mathlib.Core.List.{List, [], _∷_}
 use lib.IntN.{pos}
 use lib.ListN.{replicate}
-use Rattle.theory.specs.Text.{bytes}
+use Rattle.theory.specs.Text.{Bytes, bytes}
+use Rattle.theory.specs.Translation.{word-text}
 use Rattle.theory.specs.Machines.{Position}
 use Rattle.theory.specs.TurnedDown.{refuse, read-text, read-text-under, read-list, read-list-under, read-word-for, read-table-for}
 use Rattle.theory.specs.TurnedDown.{run-program, run-on}
 use Rattle.theory.specs.TurnedDown.{read-program-into, write-program-into, translate-into, read-word-into, write-word-into}
 use Rattle.theory.specs.declared.Refusal.{Refusal}
 use Rattle.theory.specs.declared.Setting.the-variants.{Any, LoopOnly}
+use Rattle.tidy.specs.Forms.{tidy-text}
 use Rattle.readings.specs.Example.{refusal, passes, entry, state, empty}
 
 abbrev pub start : Position
@@ -41,14 +43,28 @@ programs =
 -- and translated and run
 unfoldable pub runs : List Order
 runs =
-    row (refusal (translate-into [] (read-text (bytes "z\n")))) (refuse 4 1)
-    ∷ row (refusal (translate-into (9 ∷ 9 ∷ 9 ∷ []) (read-text []))) (refuse 19 0)
-    ∷ row (refusal (translate-into (9 ∷ 9 ∷ 9 ∷ 9 ∷ []) (read-list []))) passes
-    ∷ row (refusal (translate-into [] (read-text-under LoopOnly (bytes "while X0 != 0\n")))) (refuse 20 1)
+    row (refusal (translate-into word-text [] (read-text (bytes "z\n")))) (refuse 4 1)
+    ∷ row (refusal (translate-into word-text (9 ∷ 9 ∷ 9 ∷ []) (read-text []))) (refuse 19 0)
+    ∷ row (refusal (translate-into word-text (9 ∷ 9 ∷ 9 ∷ 9 ∷ []) (read-list []))) passes
+    ∷ row (refusal (translate-into word-text [] (read-text-under LoopOnly (bytes "while X0 != 0\n")))) (refuse 20 1)
     ∷ row (refusal (run-program (read-text (bytes "z\n")) (state 0 1 [] []) 7)) (refuse 4 1)  -- the program before its state
     ∷ row (refusal (run-program (read-text []) (state 0 1 [] []) 7)) (refuse 9 0)
     ∷ row (refusal (run-program (read-list []) (state 1 1 [] []) 7)) passes
     ∷ row (refusal (run-program (read-list-under LoopOnly (7 ∷ 0 ∷ 0 ∷ [])) (state 0 1 [] []) 7)) (refuse 20 1)
+    ∷ []
+
+-- A program translated into its tidy form: 19 goes by the size of that word
+abbrev pub one-line : Bytes
+one-line = bytes "X1 <- X1 + 1\n"
+
+unfoldable pub tidy : List Order
+tidy =
+    row (refusal (translate-into word-text (replicate 7 9) (read-text one-line))) passes
+    ∷ row (refusal (translate-into tidy-text (replicate 7 9) (read-text one-line))) (refuse 19 0)
+    ∷ row (refusal (translate-into tidy-text (replicate 24 9) (read-text one-line))) (refuse 19 0)
+    ∷ row (refusal (translate-into tidy-text (replicate 25 9) (read-text one-line))) passes
+    ∷ row (refusal (translate-into tidy-text [] (read-text (bytes "loop X0\n")))) (refuse 8 1)  -- 8 before 19
+    ∷ row (refusal (translate-into tidy-text [] (read-list-under LoopOnly (7 ∷ 0 ∷ 0 ∷ [])))) (refuse 20 1)
     ∷ []
 
 -- A word
@@ -69,4 +85,4 @@ words =
 
 -- All of them
 unfoldable pub orders : List (List Order)
-orders = programs ∷ runs ∷ words ∷ []
+orders = programs ∷ runs ∷ tidy ∷ words ∷ []

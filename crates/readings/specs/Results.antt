@@ -5,18 +5,22 @@ use Prim.Native.Nat.{ℕ}
 use Prim.Native.String.{String}
 use lib.IntN.{ℤ, pos, negsuc}
 use lib.ListN.{replicate}
+use Rattle.theory.specs.Basics.{present}
 use Rattle.theory.specs.Text.{Bytes, bytes}
 use Rattle.theory.specs.ProgramText.{list-of, text-of}
 use Rattle.theory.specs.Translation.{word-text}
-use Rattle.theory.specs.Machines.{fresh-source, fresh-word, SourceState, Memory, Position}
+use Rattle.theory.specs.Machines.{fresh-source, fresh-word, SourceState, Memory, Position, untidy, halted-only}
 use Rattle.theory.specs.TurnedDown.{Answer, mapped, refuse}
 use Rattle.theory.specs.TurnedDown.{read-text, read-list, read-word, read-word-for}
 use Rattle.theory.specs.RunTool.{shown, end-name}
 use Rattle.theory.specs.declared.End.{End}
 use Rattle.theory.specs.declared.End.the-variants.{Halted, Strayed, Spent, Full}
 use Rattle.bench.specs.Table as T
-use Rattle.readings.specs.Example.{Example, output, fills, row, charges, runs, word-runs, valued, spelled, prints, SourceShown}
-use Rattle.readings.specs.Example.{WordShown, passes, entry, state, fresh, nested, loop-in-while, register, several}
+use Rattle.tidy.specs.Forms.{tidy-charges}
+use Rattle.tidy.specs.declared.Form.the-variants.{Plain, Tidy}
+use Rattle.readings.specs.Example.{Example, output, fills, row, charges, runs, word-runs, value, form, numbers, spelled, prints}
+use Rattle.readings.specs.Example.{SourceShown, WordShown, FormShown, passes, has, entry, state, fresh, nested, loop-in-while}
+use Rattle.readings.specs.Example.{register, several}
 
 -- A program as a list, its word, and the text of a list
 abbrev pub list-for : String → Answer (List ℕ)
@@ -187,7 +191,7 @@ word-ends =
     ∷ word-runs "1#" (register 1 "1" (1 ∷ [])) (at (negsuc 4) 0) 7 (leaves Strayed 0 (negsuc 4) (register 1 "1" (1 ∷ [])))
     ∷ []
 
--- Runs of words: what the store then holds, places before the word, and the value
+-- Runs of words: what the store then holds, and places before the word
 unfoldable pub word-steps : List Example
 word-steps =
     word-runs "1#####" (register 3 "#1\0" (2 ∷ [])) (at (pos 1) 0) 7 (leaves Strayed 1 (pos 4) (register 3 "1\0\0" (1 ∷ [])))
@@ -195,10 +199,40 @@ word-steps =
     ∷ word-runs "11#1#####" (several 2 "1#\0\0" (2 ∷ 0 ∷ [])) (at (pos 1) 0) 2 (leaves Strayed 2 (pos 4) (several 2 "#\01\0" (1 ∷ 1 ∷ [])))
     ∷ word-runs "1#1#" (register 2 "\0\0" (0 ∷ [])) (at (pos 1) 0) 1 (leaves Spent 1 (pos 2) (register 2 "1\0" (1 ∷ [])))  -- a step
     ∷ word-runs "1111####" (register 1 "\0" (0 ∷ [])) (at (pos 1) 0) 7 (leaves Strayed 1 (negsuc 2) (register 1 "\0" (0 ∷ [])))
-    ∷ valued "1###" (pos 2) ("1#" ∷ "1" ∷ []) (some (bytes "1#"))
-    ∷ valued "1###" (pos 1) ("1#" ∷ "1" ∷ []) none
-    ∷ valued "1###" (pos 3) ("1#" ∷ "1" ∷ []) none
-    ∷ valued "1###" (negsuc 0) ("1#" ∷ "1" ∷ []) none
+    ∷ []
+
+-- The value: "register 1 under that condition, and otherwise the answer is untidy"
+unfoldable pub values : List Example
+values =
+    value "1###" (pos 2) 2 ("1#" ∷ "" ∷ []) (has "1#")
+    ∷ value "1###" (pos 2) 2 ("" ∷ "" ∷ []) (has "")
+    ∷ value "1###" (pos 2) 2 ("" ∷ "1" ∷ []) (some untidy)
+    ∷ value "1###" (pos 2) 2 ("1" ∷ "#" ∷ []) (some untidy)  -- a # is content
+    ∷ value "1###" (pos 2) 3 ("1" ∷ "" ∷ "1" ∷ []) (some untidy)  -- the last register too
+    ∷ value "1###" (pos 2) 3 ("1" ∷ "1" ∷ "" ∷ []) (some untidy)
+    ∷ value "1###" (pos 2) 1 ("1" ∷ "1" ∷ []) (has "1")  -- a machine of one register has no other
+    ∷ value "1###" (pos 1) 2 ("1" ∷ "" ∷ []) none  -- not halted, tidy or not
+    ∷ value "1###" (pos 1) 2 ("1" ∷ "1" ∷ []) none
+    ∷ value "1###" (pos 3) 2 ("1" ∷ "" ∷ []) none
+    ∷ value "1###" (negsuc 0) 2 ("1" ∷ "1" ∷ []) none
+    ∷ numbers (present (map (λ e. halted-only e 7) (none ∷ some Strayed ∷ some Spent ∷ some Full ∷ []))) []
+    ∷ []
+
+abbrev pub formed : List String → T.Shown → FormShown
+formed ws r = record { word = joined ws; run = r }
+
+-- Both forms: "clears of registers 2 to K follow in rising order, each charged 2v+2 for its content v"
+unfoldable pub forms : List Example
+forms =
+    form Plain T.adder (0 ∷ 3 ∷ []) (formed (T.adder-word ∷ []) (T.shows Halted 37 (pos 15) ("111" ∷ "111" ∷ [])))
+    ∷ value T.adder-word (pos 15) 2 ("111" ∷ "111" ∷ []) (some untidy)
+    ∷ form Tidy T.adder (0 ∷ 3 ∷ [])
+    (formed (T.adder-word ∷ "11#####11###11####" ∷ []) (T.shows Halted 45 (pos 18) ("111" ∷ "" ∷ [])))
+    ∷ form Tidy "X2 <- X2 + 1\n" (1 ∷ 2 ∷ 3 ∷ [])
+    (formed ("1###" ∷ "111#" ∷ "11#####11###11####" ∷ "111#####11###11####" ∷ []) (T.shows Halted 18 (pos 9) ("1" ∷ "" ∷ "" ∷ [])))
+    ∷ form Tidy "" [] (formed ("1###" ∷ []) (T.shows Halted 1 (pos 2) []))  -- nothing to clear
+    ∷ form Tidy "X0 <- X0 + 1\n" (2 ∷ []) (formed ("1###" ∷ "1#" ∷ []) (T.shows Halted 2 (pos 3) ("111" ∷ [])))
+    ∷ numbers (map (λ K. tidy-charges K (T.from ("1" ∷ "11" ∷ "" ∷ "1111" ∷ []))) (0 ∷ 1 ∷ 2 ∷ 3 ∷ 4 ∷ [])) (0 ∷ 0 ∷ 6 ∷ 8 ∷ 18 ∷ [])
     ∷ []
 
 -- A line of the run tool, of how the source and the word ended
@@ -240,4 +274,4 @@ budgets =
 
 -- All of them
 unfoldable pub results : List (List Example)
-results = outputs ∷ programs ∷ paid ∷ ends ∷ loops ∷ word-ends ∷ word-steps ∷ reports ∷ printed-runs ∷ budgets ∷ []
+results = outputs ∷ programs ∷ paid ∷ ends ∷ loops ∷ word-ends ∷ word-steps ∷ values ∷ forms ∷ reports ∷ printed-runs ∷ budgets ∷ []

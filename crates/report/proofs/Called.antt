@@ -40,7 +40,7 @@ use Rattle.report.proofs.Starting.{word-start, memory-passes, word-runs
 -- The word of an accepted program passes rules 11 to 14
 word-passes : (p : List Command) → Accepted p → word-fault (word-text p) ≡ none
 unfolding read-word-for
-word-passes p accepted = none-first (word-fault (word-text p)) _ (answer-done _ _ _ (words-fit p accepted .1) .0)
+word-passes p accepted = none-first (word-fault (word-text p)) _ (answer-done _ _ _ (words-fit p accepted .read) .0)
 
 -- Where a refusal is, counts for nothing
 any-place : (t : List Entry) (e : Ended.Ended) → word-ended (ended-by-byte t e) ≡ word-ended e
@@ -53,7 +53,7 @@ module _ (p : List Command) (accepted : Accepted p) (values : List ℕ) (h : Sta
   ran = word-runs (variables p) values h store lengths filled (word-of p) ∙ sym (tool-runs p (values-of values))
 
   read : for-machine (word-memory store lengths) (read-word-for 64 (word-text p)) ≡ done (W.table-of (word-of p))
-  read = rw (memory-passes (variables p) values h store lengths filled) (words-fit p accepted .1)
+  read = rw (memory-passes (variables p) values h store lengths filled) (words-fit p accepted .read)
 
   pub word-called-ends : (r : M.Run) (store′ : Bytes) (lengths′ : List ℕ)
       → Calls.handed r store′ lengths′
@@ -64,7 +64,7 @@ module _ (p : List Command) (accepted : Accepted p) (values : List ℕ) (h : Sta
       let m = word-memory store lengths in
       let answered = e ∙ ap {B = Calls.Called} (Calls.called m (record { place = pos 1; steps = 0 }) 1000000) read in
       let same : run-word (instructions (W.table-of (word-of p))) m word-start 1000000 ≡ tool-word p (values-of values)
-      = ap (λ w. run-word w m word-start 1000000) (words-fit p accepted .2) ∙ ran in
+      = ap (λ w. run-word w m word-start 1000000) (words-fit p accepted .same) ∙ ran in
       ap {B = Ended} (λ c. word-ended (c .run .ended)) answered ∙ ap {B = Ended} ended-of same
 
   -- The word's instructions, run, end as the word does

@@ -11,6 +11,7 @@ use sheet::Names;
 use source::State;
 use theory::Refusal;
 use theory::Setting;
+use tidy::Form;
 use translation::Translated;
 use word::Instruction;
 use word::Read;
@@ -107,7 +108,7 @@ fn put_translated(
     ensures { λ r. ⌜ Printed (program-report (commands (now (list .entry))) (now (sheet .entry))) (now (out .entry)) (now (out .exit)) r ⌝ }
 {
     let mut word = [0u8; Reported::WORD];
-    match translation::translate_list(Setting::Any, list, &mut word) {
+    match translation::translate_list(Setting::Any, Form::Plain, list, &mut word) {
         Translated::Refused(r) => put_refusal(out, r),
         Translated::Done(size) => {
             let end = size.symbols;

@@ -6,6 +6,7 @@ pub mod Budgets
 pub mod Counts
 pub mod Unlimited
 pub mod GoodMemory
+pub mod Values
 pub mod GoodSource
 pub mod Faults
 pub mod Writes

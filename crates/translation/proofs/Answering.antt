@@ -8,7 +8,6 @@ use lib.Seq.{take-at}
 use borrow.Author.Tests.{le-leb, lt-leb}
 use Rattle.theory.specs.Text.{Bytes}
 use Rattle.theory.specs.ProgramText.{Command, list-of, commands}
-use Rattle.theory.specs.Translation.{word-text}
 use Rattle.theory.specs.TurnedDown.{Answer, done, refused, mapped, rule-19, lent-after, read-program-into, translate-into}
 use Rattle.theory.specs.TurnedDown.{read-text-under, read-list, read-list-under}
 use Rattle.theory.specs.declared.Refusal.{Refusal}
@@ -17,35 +16,38 @@ use Rattle.theory.specs.Claims.{Accepted}
 use Rattle.theory.proofs.Nesting.{reads-accepted, short, list-read}
 use Rattle.theory.proofs.Settings.{read-text-outside, read-list-outside}
 use Rattle.theory.proofs.Lists.{lists-round-trip}
+use Rattle.tidy.specs.declared.Form.{Form}
+use Rattle.tidy.specs.Forms.{text-in}
 use Rattle.list.specs.Answers as P
 use Rattle.list.specs.declared.Program.{Program}
 use Rattle.list.specs.declared.Checked.{Checked}
 use Rattle.list.specs.declared.Checked.the-variants as C
 use Rattle.list.proofs.Replies.{checked-refused, checked-accepted}
-use Rattle.translation.specs.Answers.{size-of, Answered}
+use Rattle.translation.specs.Answers.{size-in, Answered}
 use Rattle.translation.specs.Sites.{Known}
 use Rattle.translation.specs.declared.Size.{Size}
 use Rattle.translation.specs.declared.Translated.the-variants as T
 use Rattle.list.proofs.Lists.{list-length}
 
 -- It was refused; it has no room; it is written
-pub answered-refused : (A : Answer (List Command)) (r : Refusal) (out : List ℕ) → A ≡ refused r → Answered A out out (T.Refused r)
-unfolding translate-into lent-after
-answered-refused A r out e = record { answers = rw e; writes = rw e }
+module _ (form : Form) (A : Answer (List Command)) where
+  pub answered-refused : (r : Refusal) (out : List ℕ) → A ≡ refused r → Answered form A out out (T.Refused r)
+  unfolding translate-into lent-after
+  answered-refused r out e = record { answers = rw e; writes = rw e }
 
-pub answered-short : (A : Answer (List Command)) (p : List Command) (out : List ℕ) → A ≡ done p → length out < length (word-text p)
-    → Answered A out out (T.Refused (record { number = 19; place = 0 }))
-unfolding translate-into lent-after rule-19
-answered-short A p out e h =
-    let t : _ = lt-leb (length (word-text p)) (length out) h in
-    record { answers = rw (e, t); writes = rw (e, t) }
+  module _ (p : List Command) (out : List ℕ) (e : A ≡ done p) where
+    pub answered-short : length out < length (text-in form p) → Answered form A out out (T.Refused (record { number = 19; place = 0 }))
+    unfolding translate-into lent-after rule-19
+    answered-short h =
+        let t : _ = lt-leb (length (text-in form p)) (length out) h in
+        record { answers = rw (e, t); writes = rw (e, t) }
 
-pub answered-done : (A : Answer (List Command)) (p : List Command) (out out′ : List ℕ) (s : Size) → A ≡ done p
-    → length (word-text p) ≤ length out → out′ ≡ lent-after out (done (word-text p)) → s ≡ size-of p → Answered A out out′ (T.Done s)
-unfolding translate-into rule-19
-answered-done A p out out′ s e h o z =
-    let t : _ = le-leb (length (word-text p)) (length out) h in
-    record { answers = rw (e, t, z); writes = rw (e, t) o }
+    pub answered-done : (out′ : List ℕ) (s : Size) → length (text-in form p) ≤ length out → out′ ≡ lent-after out (done (text-in form p))
+        → s ≡ size-in form p → Answered form A out out′ (T.Done s)
+    unfolding translate-into rule-19
+    answered-done out′ s h o z =
+        let t : _ = le-leb (length (text-in form p)) (length out) h in
+        record { answers = rw (e, t, z); writes = rw (e, t) o }
 
 -- What the check of a list, and the reading of a text into one, tell of the program
 

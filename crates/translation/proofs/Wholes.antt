@@ -1,18 +1,23 @@
 -- The word of a whole list: F1 and the code of the block that begins at its first line.
 use mathlib.Core.Path.{_≡_, sym, ap, _∙_}
-use mathlib.Core.List.{List, [], _∷_}
+use mathlib.Core.List.{List, [], _∷_, _++_}
 use Prim.Native.Nat.{ℕ, _+_, _≤_}
 use native.Mathlib.Omega.{arith}
-use lib.ListN.{length}
+use lib.ListN.{length, length-append}
 use Rattle.theory.specs.ProgramText.{Command, variables, lines, block-of, commands}
 use Rattle.theory.specs.Word.{Instruction, forward, spell}
-use Rattle.theory.specs.Translation.{code, word, word-of, word-text}
+use Rattle.theory.specs.Translation.{code, word, word-of}
 use Rattle.theory.specs.TurnedDown.{done, lent-after}
 use Rattle.theory.proofs.Nesting.{well-nested}
-use Rattle.theory.proofs.Sizes.{bytes-length}
-use Rattle.translation.specs.Answers.{size-of}
+use Rattle.theory.proofs.Sizes.{bytes-length, weight-append}
+use Rattle.tidy.specs.declared.Form.{Form}
+use Rattle.tidy.specs.Forms.{word-in, text-in}
+use Rattle.forms.specs.Added.{added}
+use Rattle.forms.proofs.Words.{word-added, text-spelled}
+use Rattle.translation.specs.Answers.{size-in}
 use Rattle.emit.specs.Pieces.{Written}
-use Rattle.lengths.specs.Lengths.{symbols-of}
+use Rattle.lengths.specs.Lengths.{symbols-of, length-of}
+use Rattle.lengths.specs.declared.Length.{Length}
 use Rattle.translation.specs.Sites.{block-at, Known, Site, Counts, Writes}
 use Rattle.translation.specs.declared.sizes.Extent.{Extent}
 use Rattle.translation.specs.declared.writing.Spot.{Spot}
@@ -44,25 +49,54 @@ module _ (list : List ℕ) (count K : ℕ) (k : Known list count K) where
       let K-is : variables (lines (block-of p)) ≡ K = ap variables (well-nested p (accepted list count (k .accepts))) ∙ sym (k .names) in
       ap {B = List Instruction} (λ w. forward 1 ∷ w) (rw (K-is, stands .block))
 
-  pub word-length : length (word-text (commands list)) ≡ 4 + symbols-of (code K 0 (block-at list 0))
-  unfolding word-text
-  word-length = bytes-length (word-of (commands list)) ∙ (ap symbols-of word-is ∙ (omega arith))
+  -- The word of a form
+  module _ (form : Form) where
+    abbrev p : List Command
+    p = commands list
 
-  pub size-is : (e : Extent) → Counts K 0 0 (block-at list 0) e
-      → record { symbols = 4 + e .size .symbols; instructions = 1 + e .size .instructions } ≡ size-of (commands list)
-  size-is e c =
-      let s : 4 + e .size .symbols ≡ length (word-text (commands list)) = omega (arith, ap (λ z. z .symbols) (c .size), word-length) in
-      let i : 1 + e .size .instructions ≡ length (word-of (commands list)) =
-      omega (arith, ap (λ z. z .instructions) (c .size), ap length word-is) in
-      rw (s, i)
+    -- the code of its block, and what the form adds
+    abbrev rest : List Instruction
+    rest = code K 0 (block-at list 0) ++ added form K
 
-  -- Its first instruction and its block's code, written one after the other
-  pub word-put : {out out′ out″ : List ℕ} {place : ℕ} {s : Spot} → length (word-text (commands list)) ≤ length out
-      → Written (forward 1 ∷ []) 0 out out′ place → Writes K 0 0 (block-at list 0) place out′ out″ s
-      → out″ ≡ lent-after out (done (word-text (commands list)))
-  unfolding word-text spell lent-after
-  word-put {out} {out′} {out″} {place} {s} r f w =
-      let c : List Instruction = code K 0 (block-at list 0) in
-      let whole : Written (word-of (commands list)) 0 out out″ (s .place) =
-      rw word-is (written-then (forward 1 ∷ []) c f (w .written)) in
-      whole .put .wrote ∙ sets-front out (word-text (commands list)) r
+    form-is : word-in form p ≡ forward 1 ∷ rest
+    form-is =
+        word-added form p (accepted list count (k .accepts))
+        ∙ (ap (λ n. word-of p ++ added form n) (sym (k .names)) ∙ ap (λ w. w ++ added form K) word-is)
+
+    symbols-are : length (text-in form p) ≡ symbols-of (word-in form p)
+    symbols-are = ap length (text-spelled form p) ∙ bytes-length (word-in form p)
+
+    pub size-is : (e : Extent) → Counts K 0 0 (block-at list 0) e → (a : Length) → a ≡ length-of (added form K)
+        → record { symbols = 4 + e .size .symbols + a .symbols; instructions = 1 + e .size .instructions + a .instructions }
+        ≡ size-in form p
+    size-is e c a f =
+        let body : List Instruction = code K 0 (block-at list 0) in
+        let s : 4 + e .size .symbols + a .symbols ≡ length (text-in form p) =
+        omega (
+          arith,
+          ap (λ z. z .symbols) (c .size),
+          ap (λ z. z .symbols) f,
+          symbols-are,
+          ap symbols-of form-is,
+          weight-append body (added form K),
+        ) in
+        let i : 1 + e .size .instructions + a .instructions ≡ length (word-in form p) =
+        omega (
+          arith,
+          ap (λ z. z .instructions) (c .size),
+          ap (λ z. z .instructions) f,
+          ap length form-is,
+          length-append body (added form K),
+        ) in
+        rw (s, i)
+
+    -- Its first instruction, its block's code and what the form adds, written one after the other
+    pub word-put : {out out′ out″ out‴ : List ℕ} {place end : ℕ} {s : Spot} → length (text-in form p) ≤ length out
+        → Written (forward 1 ∷ []) 0 out out′ place → Writes K 0 0 (block-at list 0) place out′ out″ s
+        → Written (added form K) (s .place) out″ out‴ end → out‴ ≡ lent-after out (done (text-in form p))
+    unfolding spell lent-after
+    word-put {out} {out‴ = out‴} {end = end} r f w a =
+        let body : List Instruction = code K 0 (block-at list 0) in
+        let whole : Written (word-in form p) 0 out out‴ end =
+        rw form-is (written-then (forward 1 ∷ []) rest f (written-then body (added form K) (w .written) a)) in
+        whole .put .wrote ∙ (rw (← text-spelled form p) (sets-front out (text-in form p) r))

@@ -1,5 +1,5 @@
-// Translation of a program into its 1# word (document 01, "Translation"). The sizes come first, by a walk over the program; then each
-// symbol of the word is written once, straight into the caller's output.
+// Translation of a program into its 1# word (document 01, "Translation"), plain or tidy. The sizes come first, by a walk over the program;
+// then each symbol of the word is written once, straight into the caller's output.
 mod lines;
 mod sizes;
 mod writing;
@@ -7,13 +7,14 @@ mod writing;
 use program::Checked;
 use theory::Refusal;
 use theory::Setting;
+use tidy::Form;
 ghost use mathlib.Core.Path.{_≡_};
 ghost use Prim.Native.Nat.{_≤_};
 ghost use lib.ListN.{length};
-ghost use Rattle.theory.specs.Translation.{word-text};
-ghost use Rattle.theory.specs.TurnedDown.{done, read-list, read-list-under, read-text-under, lent-after, translate-into};
+ghost use Rattle.theory.specs.TurnedDown.{done, read-list, read-list-under, read-text-under, lent-after};
 ghost use Rattle.theory.specs.ProgramText.{commands};
-ghost use Rattle.translation.specs.Answers.{size-of, translated, output, Answered};
+ghost use Rattle.tidy.specs.Forms.{text-in};
+ghost use Rattle.translation.specs.Answers.{size-in, translated, output, Answered};
 ghost use Rattle.translation.specs.Sites.{Known, Noted};
 
 // The size of a word: its symbols and its instructions.
@@ -28,61 +29,71 @@ pub enum Translated {
     Refused(Refusal),
 }
 
-// The size of the word of an accepted list: F1, and the program's block. The instructions of every body are noted.
-fn word_size(list: &[u8], lines: usize, variables: u8, bodies: &mut [u16]) -> Size
+// The size of a form of the word of an accepted list: F1, the program's block, and what the form adds. The instructions of every body are
+// noted.
+fn word_size(form: Form, list: &[u8], lines: usize, variables: u8, bodies: &mut [u16]) -> Size
     requires { ⌜ Known (now list) lines variables × (lines ≤ length (now bodies)) ⌝ }
-    ensures { λ r. ⌜ (r ≡ size-of (commands (now (list .entry)))) × Noted (now (list .entry)) variables lines (now (bodies .exit)) ⌝ }
+    ensures { λ r. ⌜ (r ≡ size-in form (commands (now (list .entry))))
+        × Noted (now (list .entry)) variables lines (now (bodies .exit)) ⌝ }
 {
     let block = sizes::block_size(list, lines, variables, 0, 0, &mut *bodies);
+    let added = forms::added_size(form, variables);
     Size {
-        symbols: 4 + block.size.symbols,
-        instructions: 1 + block.size.instructions as usize,
+        symbols: 4 + block.size.symbols + added.symbols,
+        instructions: 1 + block.size.instructions as usize + added.instructions as usize,
     }
 }
 
-// The word of an accepted list, at the start of an output that has room for it.
-fn put_word(list: &[u8], lines: usize, variables: u8, bodies: &[u16], out: &mut [u8])
+// A form of the word of an accepted list, at the start of an output that has room for it.
+fn put_word(form: Form, list: &[u8], lines: usize, variables: u8, bodies: &[u16], out: &mut [u8])
     requires { ⌜ Known (now list) lines variables × Noted (now list) variables lines (now bodies)
-        × (length (word-text (commands (now list))) ≤ length (now out)) ⌝ }
-    ensures { λ _. ⌜ now (out .exit) ≡ lent-after (now (out .entry)) (done (word-text (commands (now (list .entry))))) ⌝ }
+        × (length (text-in form (commands (now list))) ≤ length (now out)) ⌝ }
+    ensures { λ _. ⌜ now (out .exit) ≡ lent-after (now (out .entry)) (done (text-in form (commands (now (list .entry))))) ⌝ }
 {
     let place = emit::put_instruction(&mut *out, 0, 1, emit::FORWARD);
-    writing::put_block(list, lines, variables, 0, 0, bodies, &mut *out, place);
+    let block = writing::put_block(list, lines, variables, 0, 0, bodies, &mut *out, place);
+    forms::put_added(form, &mut *out, block.place, variables);
 }
 
 // Rule 19, and the word.
-fn translate_accepted(list: &[u8], lines: usize, variables: usize, out: &mut [u8]) -> Translated
+fn translate_accepted(
+    form: Form,
+    list: &[u8],
+    lines: usize,
+    variables: usize,
+    out: &mut [u8],
+) -> Translated
     requires { ⌜ Known (now list) lines variables ⌝ }
-    ensures { λ r. ⌜ Answered (read-list (now (list .entry))) (now (out .entry)) (now (out .exit)) r ⌝ }
+    ensures { λ r. ⌜ Answered form (read-list (now (list .entry))) (now (out .entry)) (now (out .exit)) r ⌝ }
 {
     let mut bodies = [0u16; program::Program::LINES];
     let named = variables as u8;
-    let size = word_size(list, lines, named, &mut bodies);
+    let size = word_size(form, list, lines, named, &mut bodies);
     if out.len() < size.symbols {
         return Translated::Refused(Refusal {
             number: 19,
             place: 0,
         });
     }
-    put_word(list, lines, named, &bodies, &mut *out);
+    put_word(form, list, lines, named, &bodies, &mut *out);
     Translated::Done(size)
 }
 
-// A list of three numbers a command: rules 3 to 8 under a setting, then 19.
-pub fn translate_list(setting: Setting, list: &[u8], out: &mut [u8]) -> Translated
-    ensures { λ r. ⌜ r ≡ translated (translate-into (now (out .entry)) (read-list-under setting (now (list .entry)))) ⌝ }
-    ensures { λ _. ⌜ now (out .exit) ≡ output (now (out .entry)) (read-list-under setting (now (list .entry))) ⌝ }
+// A list of three numbers a command, translated in a form: rules 3 to 8 under a setting, then 19.
+pub fn translate_list(setting: Setting, form: Form, list: &[u8], out: &mut [u8]) -> Translated
+    ensures { λ r. ⌜ r ≡ translated form (now (out .entry)) (read-list-under setting (now (list .entry))) ⌝ }
+    ensures { λ _. ⌜ now (out .exit) ≡ output form (now (out .entry)) (read-list-under setting (now (list .entry))) ⌝ }
 {
     match program::check_list(setting, list) {
         Checked::Refused(r) => Translated::Refused(r),
-        Checked::Accepted(p) => translate_accepted(list, p.lines, p.variables, &mut *out),
+        Checked::Accepted(p) => translate_accepted(form, list, p.lines, p.variables, &mut *out),
     }
 }
 
-// A text: rules 1 to 8 under a setting, then 19.
-pub fn translate_text(setting: Setting, text: &[u8], out: &mut [u8]) -> Translated
-    ensures { λ r. ⌜ r ≡ translated (translate-into (now (out .entry)) (read-text-under setting (now (text .entry)))) ⌝ }
-    ensures { λ _. ⌜ now (out .exit) ≡ output (now (out .entry)) (read-text-under setting (now (text .entry))) ⌝ }
+// A text, translated so: rules 1 to 8 under a setting, then 19.
+pub fn translate_text(setting: Setting, form: Form, text: &[u8], out: &mut [u8]) -> Translated
+    ensures { λ r. ⌜ r ≡ translated form (now (out .entry)) (read-text-under setting (now (text .entry))) ⌝ }
+    ensures { λ _. ⌜ now (out .exit) ≡ output form (now (out .entry)) (read-text-under setting (now (text .entry))) ⌝ }
 {
     let mut list = [0u8; program::Program::NUMBERS];
     match program::read(setting, text, &mut list) {
@@ -90,7 +101,7 @@ pub fn translate_text(setting: Setting, text: &[u8], out: &mut [u8]) -> Translat
         Checked::Accepted(p) => {
             let lines = p.lines;
             let end = 3 * lines;
-            translate_accepted(&list[..end], lines, p.variables, &mut *out)
+            translate_accepted(form, &list[..end], lines, p.variables, &mut *out)
         }
     }
 }

@@ -34,14 +34,14 @@ enum-known-size c = search needs
 -- The word that is in the buffer
 held : (c : tie.After-size) → let called = c .before .before .before in
     let start = called .before .before .before .before .before in
-    InBuffer (commands (start .args .list .now)) (called .translate-list .last .1 .1 .0) (c .size .given .0 .0 .symbols)
+    InBuffer (commands (start .args .list .now)) (called .translate-list .last .1 .1 .1 .0) (c .size .given .0 .0 .symbols)
 held c =
     let called = c .before .before .before in
     let start = called .before .before .before .before .before in
     let list = start .args .list .now in
     let done-then = sym (c .size .given .1) ∙ called .translate-list .ensures .0 in
     word-in-buffer (replicate 65536 0) (length-replicate {A = ℕ} 65536 0) (commands list) (read-list list) (start .pre .0 .accepted)
-    (c .size .given .0 .0) (called .translate-list .last .1 .1 .0) done-then (called .translate-list .ensures .1)
+    (c .size .given .0 .0) (called .translate-list .last .1 .1 .1 .0) done-then (called .translate-list .ensures .1)
 
 -- The sheet is accepted for the program of the list
 accepted : (list s : Bytes) (names : Names) (K : ℕ) → Listed list K → Given s names K → sheet-fault 1024 (variables
@@ -51,8 +51,8 @@ accepted list s names K listed given = subst (λ k. sheet-fault 1024 k s ≡ non
 array-share-prefix-word : tie.Need-array-share-prefix-word
 array-share-prefix-word c =
     let h = held (c .before) in
-    let size : length (c .before .before .before .before .translate-list .last .1 .1 .0) ≡ 65536 = c .before .before .before .before
-    .translate-list .kept .1 .1 .0 in
+    let size : length (c .before .before .before .before .translate-list .last .1 .1 .1 .0) ≡ 65536 = c .before .before .before .before
+    .translate-list .kept .1 .1 .1 .0 in
     omega (arith, h .fits, h .counted)
 
 slice-aggregate-put-word-rows : tie.Need-slice-aggregate-put-word-rows

@@ -21,7 +21,7 @@ returns c =
     let z : _ = c .before .before .before in
     let p : _ = z .before .before .before .before .pre in
     let s : _ = ap (λ z. z .symbols) (z .word-size .ensures .0) in
-    answered-short _ _ _ (p .accepts .read) (omega (arith, s, c .if1 .taken))
+    answered-short _ _ _ _ (p .accepts .read) (omega (arith, s, c .if1 .taken))
 
 slice-aggregate-put-word : tie.Need-slice-aggregate-put-word
 slice-aggregate-put-word c = search needs
@@ -42,7 +42,7 @@ returns-2 c =
     let e : _ = z .word-size .ensures .0 in
     let s : _ = ap (λ z. z .symbols) e in
     let room : _ = c .before .before .before .before .before .if1 .left in
-    answered-done _ _ _ _ _ (p .accepts .read) (omega (arith, s, room)) (c .before .before .put-word .ensures) e
+    answered-done _ _ _ _ (p .accepts .read) _ _ (omega (arith, s, room)) (c .before .before .put-word .ensures) e
 
 pub translate-accepted-spec : {M : Type 1} → statement M
 translate-accepted-spec =

@@ -23,7 +23,7 @@ translate-accepted-requires c κs =
 returns : tie.Need-returns
 returns c =
     let e : _ = checked-refused (read-list-under _ _) (c .before .before .before .check-list .ensures) (c .before .r .given .1) in
-    let a : _ = answered-refused _ _ _ e in
+    let a : _ = answered-refused (c .before .before .before .before .before .before .args .form) _ _ _ e in
     (a .answers, a .writes)
 
 same-length : tie.Need-same-length

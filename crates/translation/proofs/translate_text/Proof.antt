@@ -47,7 +47,7 @@ translate-accepted-requires c κs =
 returns : tie.Need-returns
 returns c =
     let e : _ = unread _ _ _ (omega arith) (c .before .before .before .before .read .ensures .0) (c .before .r .given .1) in
-    let a : _ = answered-refused _ _ _ e in
+    let a : _ = answered-refused (c .before .before .before .before .before .before .before .before .args .form) _ _ _ e in
     (a .answers, a .writes)
 
 same-length : tie.Need-same-length
