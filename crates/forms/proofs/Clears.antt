@@ -1,18 +1,16 @@
 -- The clears of registers 2 to K, one after the other.
 use mathlib.Core.Path.{_≡_, refl, sym, ap, _∙_}
 use mathlib.Core.List.{List, [], _++_}
-use mathlib.Core.List as L
-use Prim.Native.Nat.{ℕ, zero, suc, _+_, _-_, _*_, _≤_, _<_}
+use Prim.Native.Nat.{ℕ, zero, suc, _+_, _-_, _≤_, _<_}
 use native.Mathlib.Omega.{arith}
 use lib.ListN.{length, length-append}
-use Rattle.theory.specs.Runs.{register}
-use Rattle.theory.specs.Word.{Instruction, entry-of, spell-entries}
+use Rattle.theory.specs.Word.{Instruction, spell-entries}
 use Rattle.theory.specs.Translation.{clearing, plain-code}
 use Rattle.theory.proofs.Sizes.{weight-append}
 use Rattle.tidy.specs.Forms.{clears}
 use Rattle.tidy.proofs.Sizes.{clears-short, clears-light}
 use Rattle.emit.specs.Pieces.{plain-of, Written}
-use Rattle.emit.proofs.Puts.{spelt-then}
+use Rattle.emit.proofs.Puts.{written-then}
 use Rattle.output.specs.Puts.{most}
 use Rattle.output.proofs.Puts.{put-nothing}
 use Rattle.lengths.specs.Lengths.{symbols-of, length-of}
@@ -101,7 +99,7 @@ module _ (K : ℕ) where
       → Written (line-code K i) here out out′ end → Put place start out′ (i + 1) end
   one-put {i = i} p l w = record {
     passed = passed-more (p .passed) l;
-    written = rw (clears-more K i (p .passed .from), L.map-append entry-of (clears i) (line-code K i)) (spelt-then (p .written) w);
+    written = rw (clears-more K i (p .passed .from)) (written-then (clears i) (line-code K i) (p .written) w);
   }
 
   pub all-put : {place : ℕ} {start out : List ℕ} {i here : ℕ} → Put place start out i here → K ≤ i → Written (clears K) place start out here

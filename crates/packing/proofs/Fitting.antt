@@ -122,8 +122,9 @@ module _ (σ : Setting) (form : Form) (word : Bytes) where
       → Fit (fields (word-fields form) (translate-into (text-in form) word (answer o p)))
   unfolding translate-into
   translated-fits o p low ok =
+      let room = rule-19 word (text-in form p) in
       fit-after (word-fields form) o p (λ q. answer (rule-19 word (text-in form q)) q) low
-      (λ e. fit-answer (word-fields form) (rule-19 word (text-in form p)) p (no-room-low word (text-in form p)) (λ f. word-fit p (ok e) form))
+      (λ e. fit-answer (word-fields form) room p (no-room-low word (text-in form p)) (λ f. word-fit p (ok e) form))
 
   translate-fits : (text : Bytes) → Fit (fields (word-fields form) (translate-into (text-in form) word (read-text-under σ text)))
   unfolding read-text-under
@@ -200,7 +201,8 @@ value-fits m = go (is-memory m) refl
         let small = leb-true (m .capacity) 1024 (and-second (leb 1 (m .capacity)) (leb (m .capacity) 1024) (good .capacity)) in
         omega (arith, contents-fit m good 0 some-register, small)
 
-    go : (t : Bool) → is-memory m ≡ t → Fit (fields value-fields (mapped (λ n. value-at (n .count) (contents n)) (answer (unless t 10 0) m)))
+    go : (t : Bool) → is-memory m ≡ t
+        → Fit (fields value-fields (mapped (λ n. value-at (n .count) (contents n)) (answer (unless t 10 0) m)))
     go true e = by-tidy (is-tidy (m .count) (contents m))
       where
         by-tidy : (t : Bool) → Fit (value-fields (cond t (valued (contents m 1)) untidy))

@@ -1,5 +1,5 @@
--- Every number tells a setting and a form, and nothing is cut where an answer is packed into one number: stated here, proved in proofs/Unpacked.antt
--- and proofs/Fitting.antt.
+-- Every number tells a setting and a form, and nothing is cut where an answer is packed into one number: stated here, proved in
+-- proofs/Unpacked.antt and proofs/Fitting.antt.
 use mathlib.Core.Path.{_≡_}
 use mathlib.Core.Logic.{_≢_}
 use mathlib.Core.List.{List}

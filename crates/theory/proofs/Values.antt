@@ -1,5 +1,5 @@
 -- The value of a word by its registers: the test on a machine and the paper's condition.
-use mathlib.Core.Path.{_≡_, refl, sym, ap, ap₂, _∙_}
+use mathlib.Core.Path.{_≡_, refl, sym, ap, _∙_}
 use mathlib.Core.Bool.{Bool, true, false, cond}
 use mathlib.Core.List.{List, [], _∷_}
 use Prim.Native.Nat.{ℕ, zero, suc, _+_, _-_, _≤_, _<_}
@@ -9,7 +9,7 @@ use lib.Dec.{eqb, ltb}
 use borrow.Author.Tests.{eq-eqb, eqb-true, ltb-true, ltb-false}
 use Rattle.theory.specs.Basics.{all-below}
 use Rattle.theory.specs.Word.{Symbol}
-use Rattle.theory.specs.Machines.{Value, valued, untidy, HasValue, is-tidy, value-at}
+use Rattle.theory.specs.Machines.{valued, untidy, HasValue, is-tidy, value-at}
 use Rattle.theory.proofs.GoodMemory.{all-below-at, all-below-from}
 
 pub all-below-same : (n : ℕ) (f g : ℕ → Bool) → ((i : ℕ) → i < n → f i ≡ g i) → all-below n f ≡ all-below n g

@@ -16,6 +16,7 @@ use Rattle.forms.specs.Added.{added}
 use Rattle.forms.proofs.Words.{word-added, text-spelled}
 use Rattle.translation.specs.Answers.{size-in}
 use Rattle.emit.specs.Pieces.{Written}
+use Rattle.emit.proofs.Puts.{written-then}
 use Rattle.lengths.specs.Lengths.{symbols-of, length-of}
 use Rattle.lengths.specs.declared.Length.{Length}
 use Rattle.translation.specs.Sites.{block-at, Known, Site, Counts, Writes}
@@ -23,7 +24,6 @@ use Rattle.translation.specs.declared.sizes.Extent.{Extent}
 use Rattle.translation.specs.declared.writing.Spot.{Spot}
 use Rattle.translation.proofs.Sites.{accepted, Stands, whole-site, Bounds, bounds}
 use Rattle.output.proofs.Puts.{sets-front}
-use Rattle.translation.proofs.Written.{written-then}
 
 module _ (list : List ℕ) (count K : ℕ) (k : Known list count K) where
   stands : Stands list count K 0 0 (block-of (commands list))

@@ -2,26 +2,21 @@
 use mathlib.Core.Path.{_≡_, sym, ap}
 use mathlib.Core.Bool.{true, false}
 use mathlib.Core.List.{List, [], _++_}
-use mathlib.Core.List as L
 use Prim.Native.Nat.{ℕ, _+_, _≤_}
 use native.Mathlib.Omega.{arith}
 use lib.ListN.{length}
 use Rattle.theory.specs.Source.{deeper}
-use Rattle.theory.specs.Word.{Instruction, entry-of, spell-entries}
+use Rattle.theory.specs.Word.{Instruction, spell-entries}
 use Rattle.theory.specs.Translation.{plain-code, code}
 use Rattle.command.specs.declared.Numbers.{Numbers}
 use Rattle.output.specs.Puts.{most}
 use Rattle.output.proofs.Puts.{put-nothing}
 use Rattle.emit.specs.Pieces.{plain-of, kind-opened, front, back, Written}
-use Rattle.emit.proofs.Puts.{spelt-then}
+use Rattle.emit.proofs.Puts.{written-then}
 use Rattle.translation.specs.Sites.{block-at, goes-on, first, Site, Writes}
 use Rattle.translation.specs.declared.writing.Spot.{Spot}
 use Rattle.translation.proofs.Walks.{Passed, passed-none, passed-more, passed-all, PlainHere, PairHere}
 use Rattle.translation.proofs.Counting.{pair-code}
-
--- Some instructions, and more
-pub written-then : (u w : List Instruction) {l m n : List ℕ} {i j k : ℕ} → Written u i l m j → Written w j m n k → Written (u ++ w) i l n k
-written-then u w p q = rw (L.map-append entry-of u w) (spelt-then p q)
 
 module _ (list : List ℕ) (count K d at place : ℕ) (start : List ℕ) where
   -- What was passed from line `at` to line `next` was written, from `place` to `end`

@@ -1,7 +1,6 @@
 -- `is_tidy` meets its contract: the lengths after the first and before i are 0.
 use mathlib.Core.Path.{sym}
 use Prim.Native.Nat.{_-_}
-use native.Mathlib.Omega.{arith}
 use lib.ListN.{length}
 use borrow.Author.Needs.{needs}
 use Rattle.memory.proofs.Rest.{EmptyTo, empty-none, empty-more, empty-fails, empty-all}
