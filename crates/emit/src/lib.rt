@@ -25,7 +25,7 @@ pub fn put_instruction(out: &mut [u8], place: usize, operand: usize, kind: usize
 }
 
 // C a, F2, B2
-fn clearing(out: &mut [u8], place: usize, a: usize) -> usize
+pub fn clearing(out: &mut [u8], place: usize, a: usize) -> usize
     ensures { λ r. ⌜ Written (T.clearing a) place (now (out .entry)) (now (out .exit)) r ⌝ }
 {
     let second = put_instruction(&mut *out, place, a, CASES);

@@ -1,37 +1,23 @@
-// What a form of a word adds after the plain one (document 02, request 2): nothing, or the clears of registers 2 to K. Each is the clear of
-// a variable, whose instructions and size are those of its line.
+// What a form of a word adds after the plain one (document 02, request 2): nothing, or the clears of registers 2 to K.
 ghost use mathlib.Core.Path.{_≡_};
 ghost use Rattle.tidy.specs.Forms.{clears};
 ghost use Rattle.emit.specs.Pieces.{Written};
 ghost use Rattle.lengths.specs.Lengths.{length-of};
-ghost use Rattle.forms.specs.Added.{clear-line, added};
-use command::Numbers;
+ghost use Rattle.forms.specs.Added.{added};
 use lengths::Length;
 use tidy::Form;
 
-// The line that clears a variable.
-fn clear_line(index: u8) -> Numbers
-    ensures { λ r. ⌜ r ≡ clear-line index ⌝ }
-{
-    Numbers {
-        kind: command::CLEAR,
-        index,
-        source: 0,
-    }
-}
-
-// The size of all clears of a program of so many variables.
+// The size of all clears of a program of so many variables: that of register r has 3 instructions and r + 16 symbols.
 fn clears_size(variables: u8) -> Length
     ensures { λ r. ⌜ r ≡ length-of (clears variables) ⌝ }
 {
     let mut instructions: u16 = 0;
     let mut symbols: usize = 0;
-    let mut i: u8 = 1;
-    while i < variables {
-        let line = lengths::line_size(clear_line(i), variables);
-        instructions += line.instructions;
-        symbols += line.symbols;
-        i += 1;
+    let mut r: u8 = 1;
+    while r < variables {
+        r += 1;
+        instructions += 3;
+        symbols += r as usize + 16;
     }
     Length {
         instructions,
@@ -44,10 +30,10 @@ fn put_clears(out: &mut [u8], place: usize, variables: u8) -> usize
     ensures { λ r. ⌜ Written (clears variables) place (now (out .entry)) (now (out .exit)) r ⌝ }
 {
     let mut here = place;
-    let mut i: u8 = 1;
-    while i < variables {
-        here = emit::plain_line(&mut *out, here, clear_line(i), variables);
-        i += 1;
+    let mut r: u8 = 1;
+    while r < variables {
+        r += 1;
+        here = emit::clearing(&mut *out, here, r as usize);
     }
     here
 }

@@ -1,49 +1,40 @@
--- `clears_size` meets its contract: the clears of the variables before i are counted.
+-- `clears_size` meets its contract: the clears of registers 2 to r are counted.
 use Prim.Native.Nat.{_-_}
 use native.Mathlib.Omega.{arith}
 use borrow.Author.Needs.{needs}
-use Rattle.forms.proofs.Clears.{Counted, counted-none, counted-more, counted-room, counted-all}
+use Rattle.forms.proofs.Clears.{Counted, counted-none, counted-more, counted-short, counted-all}
 use Rattle.forms.proofs.clears_size.Statement.{statement}
 use Rattle.forms.proofs.clears_size.Tie as tie
 
 abbrev Inv-loop : tie.InvT-loop
-Inv-loop variables instructions₀ symbols₀ i₀ instructions symbols i = Counted variables i instructions symbols
+Inv-loop variables instructions₀ symbols₀ r₀ instructions symbols r = Counted variables r instructions symbols
 
 abbrev μ-loop : tie.MeasureT-loop
-μ-loop variables instructions₀ symbols₀ i₀ instructions symbols i = variables - i
+μ-loop variables instructions₀ symbols₀ r₀ instructions symbols r = variables - r
 
 loop-holds : tie.Need-loop-holds Inv-loop μ-loop
 loop-holds c = counted-none _
 
-clear-line-requires : tie.Need-clear-line-requires Inv-loop μ-loop
-clear-line-requires c κs = search needs
-
-line-size-requires : tie.Need-line-size-requires Inv-loop μ-loop
-line-size-requires c κs = search needs
+add-r : tie.Need-add-r Inv-loop μ-loop
+add-r c = search needs
 
 add-instructions : tie.Need-add-instructions Inv-loop μ-loop
-add-instructions c =
-    let l = c .before in
-    let here = rw (l .before .clear-line .ensures) at (l .line-size .ensures) in
-    omega (arith, counted-room _ (l .before .before .before .loop .inv) (search needs) here (omega arith) .0)
+add-instructions c = omega (arith, counted-short _ (c .before .loop .inv) (omega arith) .0)
+
+cast-symbols : tie.Need-cast-symbols Inv-loop μ-loop
+cast-symbols c = search needs
 
 add-symbols : tie.Need-add-symbols Inv-loop μ-loop
-add-symbols c =
-    let l = c .before .before in
-    let here = rw (l .before .clear-line .ensures) at (l .line-size .ensures) in
-    omega (arith, counted-room _ (l .before .before .before .loop .inv) (search needs) here (omega arith) .1)
+add-symbols c = search needs
 
-add-i : tie.Need-add-i Inv-loop μ-loop
-add-i c = search needs
+add-symbols-2 : tie.Need-add-symbols-2 Inv-loop μ-loop
+add-symbols-2 c = omega (arith, counted-short _ (c .before .loop .inv) (omega arith) .1)
 
 loop-less : tie.Need-loop-less Inv-loop μ-loop
 loop-less c = search needs
 
 loop-again : tie.Need-loop-again Inv-loop μ-loop
-loop-again c =
-    let l = c .before .before in
-    let here = rw (l .before .clear-line .ensures) at (l .line-size .ensures) in
-    counted-more _ (l .before .before .before .loop .inv) (search needs) here
+loop-again c = counted-more _ (c .before .loop .inv) (search needs)
 
 returns : tie.Need-returns Inv-loop μ-loop
 returns c = counted-all _ (c .before .loop .inv) (search needs)
@@ -55,11 +46,11 @@ clears-size-spec =
     Inv-loop
     μ-loop
     loop-holds
-    clear-line-requires
-    line-size-requires
+    add-r
     add-instructions
+    cast-symbols
     add-symbols
-    add-i
+    add-symbols-2
     loop-less
     loop-again
     returns)

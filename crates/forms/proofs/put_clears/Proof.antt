@@ -1,4 +1,4 @@
--- `put_clears` meets its contract: the clears of the variables before i are written.
+-- `put_clears` meets its contract: the clears of registers 2 to r are written.
 use Prim.Native.Nat.{_-_}
 use native.Mathlib.Omega.{arith}
 use borrow.Author.Needs.{needs}
@@ -8,22 +8,22 @@ use Rattle.forms.proofs.put_clears.Statement.{statement}
 use Rattle.forms.proofs.put_clears.Tie as tie
 
 abbrev Inv-loop : tie.InvT-loop
-Inv-loop out₀ place variables here₀ i₀ out here i = Put variables place out₀ out i here
+Inv-loop out₀ place variables here₀ r₀ out here r = Put variables place out₀ out r here
 
 abbrev μ-loop : tie.MeasureT-loop
-μ-loop out₀ place variables here₀ i₀ out here i = variables - i
+μ-loop out₀ place variables here₀ r₀ out here r = variables - r
 
 loop-holds : tie.Need-loop-holds Inv-loop μ-loop
 loop-holds c = nothing-put _ _ _ (omega arith) (omega arith)
 
-clear-line-requires : tie.Need-clear-line-requires Inv-loop μ-loop
-clear-line-requires c κs = search needs
+add-r : tie.Need-add-r Inv-loop μ-loop
+add-r c = search needs
 
-plain-line-requires : tie.Need-plain-line-requires Inv-loop μ-loop
-plain-line-requires c κs = search needs
+cast-clearing : tie.Need-cast-clearing Inv-loop μ-loop
+cast-clearing c = search needs
 
-add-i : tie.Need-add-i Inv-loop μ-loop
-add-i c = search needs
+clearing-requires : tie.Need-clearing-requires Inv-loop μ-loop
+clearing-requires c κs = search needs
 
 loop-less : tie.Need-loop-less Inv-loop μ-loop
 loop-less c = search needs
@@ -31,8 +31,7 @@ loop-less c = search needs
 loop-again : tie.Need-loop-again Inv-loop μ-loop
 loop-again c =
     let p = c .before .before in
-    let here = rw (p .before .clear-line .ensures) at (p .plain-line .ensures) in
-    one-put _ (p .before .before .before .before .loop .inv) (search needs) here
+    one-put _ (p .before .before .before .loop .inv) (search needs) (p .clearing .ensures)
 
 same-length : tie.Need-same-length Inv-loop μ-loop
 same-length c = put-length (c .before .loop .inv .written .put)
@@ -47,9 +46,9 @@ put-clears-spec =
     Inv-loop
     μ-loop
     loop-holds
-    clear-line-requires
-    plain-line-requires
-    add-i
+    add-r
+    cast-clearing
+    clearing-requires
     loop-less
     loop-again
     same-length
