@@ -137,7 +137,7 @@ pub fn value_read(value: memory::Value) -> u64
     ensures { λ r. ⌜ r ≡ value-read value ⌝ }
 {
     match value {
-        memory::Value::Length(symbols) => pack(0, 0, symbols),
+        memory::Value::Length(length) => pack(0, 0, length),
         memory::Value::Untidy => pack(5, 0, 0),
         memory::Value::Refused(r) => refused(r),
     }
