@@ -120,7 +120,7 @@ pub data Value : Type 0 where
   valued : List Symbol → Value
   untidy : Value
 
--- The condition, on registers without end
+-- The condition, on registers without end: the paper's "a halt with y in R1 and all other registers empty"
 abbrev pub HasValue : (ℕ → List Symbol) → List Symbol → Type 0
 HasValue f xs = (f 1 ≡ xs) × ((r : ℕ) → 1 < r → f r ≡ [])
 

@@ -115,7 +115,7 @@ module _ (b : Block) (q : List Command) where
       ∙ (command-charge-same s c e ∙ sym (ap (λ o. default 0 (Option·map (command-charge p s) o)) e))
 
   -- Where the program has a step, the longer one has that step, at that charge
-  pub same-step : (room : Room) (s t : State) → S.step room (lines b) s ≡ some t
+  same-step : (room : Room) (s t : State) → S.step room (lines b) s ≡ some t
       → (S.step room (lines b ++ q) s ≡ some t) × (charge (lines b ++ q) s ≡ charge (lines b) s)
   unfolding S.step
   same-step room s t e = go (at p (s .line)) refl e
