@@ -27,4 +27,5 @@ pub mod Stops
 pub mod Whole
 pub mod Demand
 pub mod Together
+pub mod Spellings
 pub mod Texts

@@ -1,20 +1,20 @@
 -- Numerals and names: what is written in base 10 is read again, and only what is so written is read.
 use mathlib.Core.Path.{_≡_, refl, sym, ap, ap₂, _∙_, subst}
 use mathlib.Core.Logic.{_≢_}
-use mathlib.Core.Bool.{Bool, true, false}
+use mathlib.Core.Bool.{Bool, true, false, _||_}
 use mathlib.Core.Option.{some, Option·some-injective, Option·none-ne-some}
 use mathlib.Core.List.{List, [], _∷_, _++_, append-assoc, append-nil}
 use Prim.Native.Nat.{ℕ, zero, suc, _+_, _-_, _*_, _/_, _%_, _≤_, _<_}
 use native.Mathlib.Nat.{div-add-mod', div-lt-self, div-lt-iff-lt-mul, le-div-iff-mul-le, div-eq-of-lt, mul-add-div-right}
 use native.Mathlib.Nat.{mod-lt, mod-eq-of-lt, mul-add-mod-self-right}
 use native.Mathlib.Omega.{arith}
-use lib.ListN.{length}
+use lib.ListN.{length, replicate}
 use lib.Dec.{eqb, leb, ltb}
 use borrow.Author.Tests.{leb-true, le-leb, ltb-true, ltb-false, lt-ltb, le-ltb, eqb-true, eqb-false, ne-eqb, not-true}
 use Rattle.theory.specs.Basics.{all}
-use Rattle.theory.specs.Text.{Bytes, Found, is-digit, one-more, digits, value-after, proper, numeral, name}
-use Rattle.theory.specs.Text.{decimal-before, decimal, name-of}
-use Rattle.theory.proofs.Faults.{and-first, and-second}
+use Rattle.theory.specs.Text.{Bytes, Found, is-digit, one-more, digits, value-after, proper, numeral, prime, primes, digit-first}
+use Rattle.theory.specs.Text.{index, name, decimal-before, decimal, name-of, Notation, by-digits, by-primes, name-by}
+use Rattle.theory.proofs.Faults.{and-first, and-second, or-first, or-second}
 
 -- Digits
 
@@ -241,10 +241,6 @@ numeral-of-digits d r a p n = rw (digits-append d r a n, p)
 pub numeral-decimal : (n : ℕ) (r : Bytes) → NoDigit r → numeral (decimal n ++ r) ≡ some (found n r)
 numeral-decimal n r h = rw (numeral-of-digits (decimal n) r (decimal-digits n) (decimal-proper n) h, decimal-value n)
 
-pub name-name-of : (i : ℕ) (r : Bytes) → NoDigit r → name (name-of i ++ r) ≡ some (found i r)
-unfolding name name-of
-name-name-of i r h = numeral-decimal i r h
-
 -- What stands before the rest is the number written
 pub record Spelled (text : ℕ → Bytes) (t : Bytes) (f : Found ℕ) : Type 0 where
   pub whole : text (f .value) ++ f .rest ≡ t
@@ -272,16 +268,63 @@ numeral-spelled t f h = go (proper (digits t .value)) refl
         subst (Spelled decimal t) (Option·some-injective _ f g) (spelled e)
     go false e = absurd (Option·none-ne-some f (rw e at h))
 
-pub name-spelled : (t : Bytes) (f : Found ℕ) → name t ≡ some f → Spelled name-of t f
-unfolding name name-of
-name-spelled [] f h = absurd (Option·none-ne-some f h)
-name-spelled (b ∷ t) f h = go (eqb b 88) refl
+-- Names
+
+-- The bytes are none, or begin with neither a digit nor a prime: here a name ends
+abbrev pub NoIndex : Bytes → Type 0
+NoIndex [] = Unit {0}
+NoIndex (b ∷ t) = (is-digit b || eqb b prime) ≡ false
+
+no-index-digit : (r : Bytes) → NoIndex r → NoDigit r
+no-index-digit [] h = tt
+no-index-digit (b ∷ r) h = or-first (is-digit b) _ h
+
+pub decimal-first : (n : ℕ) (r : Bytes) → digit-first (decimal n ++ r) ≡ true
+decimal-first n r = go (decimal n) (decimal-proper n) (decimal-digits n)
   where
-    go : (x : Bool) → eqb b 88 ≡ x → Spelled name-of (b ∷ t) f
-    go true e =
-        let s : Spelled decimal t f = numeral-spelled t f (rw e at h) in
-        record { whole = ap₂ {C = Bytes} _∷_ (sym (eqb-true b 88 e)) (s .whole); ends = s .ends }
-    go false e = absurd (Option·none-ne-some f (rw e at h))
+    go : (d : Bytes) → proper d ≡ true → AllDigits d → digit-first (d ++ r) ≡ true
+    go [] p a = cc
+    go (b ∷ d) p a = and-first (is-digit b) _ a
+
+primes-first : (n : ℕ) (r : Bytes) → NoIndex r → digit-first (replicate n prime ++ r) ≡ false
+primes-first zero [] h = refl
+primes-first zero (b ∷ r) h = or-first (is-digit b) _ h
+primes-first (suc n) r h = refl
+
+primes-append : (n : ℕ) (r : Bytes) → NoIndex r → primes (replicate n prime ++ r) ≡ found n r
+unfolding primes
+primes-append zero [] h = refl
+primes-append zero (b ∷ r) h = rw (or-second (is-digit b) _ h)
+primes-append (suc n) r h = ap (λ (f : Found ℕ). found (suc (f .value)) (f .rest)) (primes-append n r h)
+
+-- A name is read from each way to write it
+pub name-name-by : (v : Notation) (i : ℕ) (r : Bytes) → NoIndex r → name (name-by v i ++ r) ≡ some (found i r)
+unfolding name name-of index
+name-name-by by-digits i r h = rw (decimal-first i r) (numeral-decimal i r (no-index-digit r h))
+name-name-by by-primes i r h = rw (primes-first i r h, primes-append i r h)
+
+primes-whole : (t : Bytes) → replicate (primes t .value) prime ++ primes t .rest ≡ t
+unfolding primes
+primes-whole [] = refl
+primes-whole (b ∷ t) = go (eqb b prime) refl (primes-whole t)
+  where
+    go : (x : Bool) → eqb b prime ≡ x → replicate (primes t .value) prime ++ primes t .rest ≡ t
+        → replicate (primes (b ∷ t) .value) prime ++ primes (b ∷ t) .rest ≡ b ∷ t
+    go true e h = rw e (ap₂ {C = Bytes} _∷_ (sym (eqb-true b prime e)) h)
+    go false e h = rw e
+
+-- and from nothing else
+pub name-written : (t : Bytes) (f : Found ℕ) → name t ≡ some f → (v : Notation) × (name-by v (f .value) ++ f .rest ≡ t)
+unfolding name name-of index
+name-written [] f h = absurd (Option·none-ne-some f h)
+name-written (b ∷ t) f h = go (eqb b 88) (digit-first t) refl refl
+  where
+    go : (x y : Bool) → eqb b 88 ≡ x → digit-first t ≡ y → (v : Notation) × (name-by v (f .value) ++ f .rest ≡ b ∷ t)
+    go true true e d = (by-digits, ap₂ {C = Bytes} _∷_ (sym (eqb-true b 88 e)) (numeral-spelled t f (rw (e, d) at h) .whole))
+    go true false e d =
+        let g : primes t ≡ f = Option·some-injective _ f (rw (e, d) at h) in
+        (by-primes, ap₂ {C = Bytes} _∷_ (sym (eqb-true b 88 e)) (rw (← g) (primes-whole t)))
+    go false y e d = absurd (Option·none-ne-some f (rw e at h))
 
 -- Two digits at most below 100
 pub decimal-short : (n : ℕ) → n < 100 → length (decimal n) ≤ 2

@@ -8,7 +8,7 @@ use Prim.Native.Nat.{ℕ, suc, _+_, _<_, _≤_}
 use lib.ListN.{length}
 use Rattle.theory.specs.Limits
 use Rattle.theory.specs.Basics.{at, EachOf}
-use Rattle.theory.specs.Text.{Bytes}
+use Rattle.theory.specs.Text.{Bytes, in-digits}
 use Rattle.theory.specs.ProgramText.{Command, plain, increment, copy, variables, Block, lines, block-of, text-of, list-of}
 use Rattle.theory.specs.Runs.{Machine, run, Goes, each, unlimited, within}
 use Rattle.theory.specs.Source as S
@@ -144,11 +144,11 @@ pub record FitsASet (K : ℕ) (w : List Instruction) (text : Bytes) : Type 0 whe
 abbrev pub WordsFit : Type 0
 WordsFit = (p : List Command) → Accepted p → FitsASet (variables p) (word-of p) (word-text p)
 
--- 4. Reading undoes writing, and writing undoes reading (of texts in digits, which are all texts)
-abbrev pub TextRoundTrip : Type 0
-TextRoundTrip =
-    ((p : List Command) → Accepted p → read-text (text-of p) ≡ done p)
-    × ((t : Bytes) (p : List Command) → read-text t ≡ done p → text-of p ≡ t)
+-- 4. "reading undoes writing for every program, and writing undoes reading only for texts in digits": every text that is written is one
+pub record TextRoundTrip : Type 0 where
+  pub read : (p : List Command) → Accepted p → read-text (text-of p) ≡ done p
+  pub written : (t : Bytes) (p : List Command) → read-text t ≡ done p → in-digits t ≡ true → text-of p ≡ t
+  pub digits : (p : List Command) → in-digits (text-of p) ≡ true
 
 abbrev pub ListRoundTrip : Type 0
 ListRoundTrip =

@@ -5,7 +5,7 @@ use mathlib.Core.List.{List, [], _∷_, _++_}
 use Prim.Native.Nat.{ℕ, suc, max}
 use lib.Dec.{eqb}
 use Rattle.theory.specs.Basics.{given, or-else, and-then, present}
-use Rattle.theory.specs.Text.{Bytes, bytes, LF, following, same, name, name-of}
+use Rattle.theory.specs.Text.{Bytes, bytes, LF, following, same, name, Notation, by-digits, name-by}
 
 -- Commands
 
@@ -42,15 +42,19 @@ abbrev pub variables : List Command → ℕ
 variables [] = 0
 variables (c ∷ p) = max (above (indices c)) (variables p)
 
--- Writing: "the spellings, single blanks only"
+-- "The spellings, single blanks only", by the notation of the first name and of the second: "One line … may spell their variable both ways"
+abbrev pub spelling-by : Notation → Notation → Command → Bytes
+spelling-by v w (plain (clear i)) = name-by v i ++ bytes " <- 0"
+spelling-by v w (plain (increment i)) = name-by v i ++ (bytes " <- " ++ (name-by w i ++ bytes " + 1"))
+spelling-by v w (plain (copy i j)) = name-by v i ++ (bytes " <- " ++ name-by w j)
+spelling-by v w (opens loop i) = bytes "loop " ++ name-by v i
+spelling-by v w (closes loop i) = bytes "endloop " ++ name-by v i
+spelling-by v w (opens while i) = bytes "while " ++ (name-by v i ++ bytes " != 0")
+spelling-by v w (closes while i) = bytes "endwhile " ++ (name-by v i ++ bytes " != 0")
+
+-- Writing: "The writer always uses digits"
 unfoldable pub spelling : Command → Bytes
-spelling (plain (clear i)) = name-of i ++ bytes " <- 0"
-spelling (plain (increment i)) = name-of i ++ (bytes " <- " ++ (name-of i ++ bytes " + 1"))
-spelling (plain (copy i j)) = name-of i ++ (bytes " <- " ++ name-of j)
-spelling (opens loop i) = bytes "loop " ++ name-of i
-spelling (closes loop i) = bytes "endloop " ++ name-of i
-spelling (opens while i) = bytes "while " ++ (name-of i ++ bytes " != 0")
-spelling (closes while i) = bytes "endwhile " ++ (name-of i ++ bytes " != 0")
+spelling c = spelling-by by-digits by-digits c
 
 -- A program as text: "Each line is one command and ends in LF"
 unfoldable pub text-of : List Command → Bytes

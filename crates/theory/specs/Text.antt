@@ -1,11 +1,12 @@
 -- Bytes, numerals and names. "Base 10 throughout, and all text is ASCII. LF is byte 10."
-use mathlib.Core.Bool.{Bool, true, false, cond, not, _&&_}
+use mathlib.Core.Bool.{Bool, true, false, cond, not, _&&_, _||_}
 use mathlib.Core.Option.{Option, none, some}
 use mathlib.Core.List.{List, [], _∷_, _++_}
 use Prim.Native.Nat.{ℕ, zero, suc, _+_, _-_, _*_, _/_, _%_}
 use Prim.Native.Char.{code}
 use Prim.Native.String.{String}
 use Prim.Native.String as Str
+use lib.ListN.{replicate}
 use lib.Dec.{eqb, leb, ltb}
 
 abbrev pub Bytes : Type 0
@@ -65,10 +66,35 @@ proper (b ∷ c ∷ t) = not (eqb b 48)
 unfoldable pub numeral : Bytes → Option (Found ℕ)
 numeral t = let f = digits t in cond (proper (f .value)) (some (record { value = value-after 0 (f .value); rest = f .rest })) none
 
--- A variable's name: X and an index. Program lines and sheets read names by this one function
+-- A prime is an apostrophe
+abbrev pub prime : ℕ
+prime = 39
+
+-- The primes at the front, counted
+unfoldable pub primes : Bytes → Found ℕ
+primes [] = record { value = 0; rest = [] }
+primes (b ∷ t) =
+    let f = primes t in
+    cond (eqb b prime) (record { value = suc (f .value); rest = f .rest }) (record { value = 0; rest = b ∷ t })
+
+-- Whether a digit comes first
+abbrev pub digit-first : Bytes → Bool
+digit-first [] = false
+digit-first (b ∷ t) = is-digit b
+
+-- An index: a numeral, or "its index in primes", and no prime is 0. What follows it has to fit by itself: in `X3'` a prime follows the 3
+unfoldable pub index : Bytes → Option (Found ℕ)
+index t = cond (digit-first t) (numeral t) (some (primes t))
+
+-- A variable's name: X and an index, and "a bare X is index 0". Program lines and sheets read names by this one function
 unfoldable pub name : Bytes → Option (Found ℕ)
 name [] = none
-name (b ∷ t) = cond (eqb b 88) (numeral t) none
+name (b ∷ t) = cond (eqb b 88) (index t) none
+
+-- "texts in digits": a digit follows every X
+unfoldable pub in-digits : Bytes → Bool
+in-digits [] = true
+in-digits (b ∷ t) = (not (eqb b 88) || digit-first t) && in-digits t
 
 -- The digits of n before t, with fuel for as many divisions
 unfoldable pub decimal-before : ℕ → ℕ → Bytes → Bytes
@@ -79,8 +105,17 @@ decimal-before (suc f) n t = elim (ltb n 10) [ true ↦ (48 + n) ∷ t | false �
 unfoldable pub decimal : ℕ → Bytes
 decimal n = decimal-before n n []
 
+-- A variable's name as the writer writes it: "The writer always uses digits"
 unfoldable pub name-of : ℕ → Bytes
 name-of i = 88 ∷ decimal i
+
+-- The two ways to write an index, and a name by either
+pub data Notation : Type 0 where
+  by-digits by-primes : Notation
+
+abbrev pub name-by : Notation → ℕ → Bytes
+name-by by-digits i = name-of i
+name-by by-primes i = 88 ∷ replicate i prime
 
 -- "Each line … ends in LF": the lines of a text. Bytes after the last LF are a last line too, one that has no LF (rule 2)
 abbrev pub onto-first : ℕ → List Bytes → List Bytes
