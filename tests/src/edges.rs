@@ -3,6 +3,7 @@
 use crate::machine::{self, Machine};
 use crate::program::{self, list, read, variables, Command, Kind, Setting};
 use crate::source::{self, State};
+use crate::spellings::{digits, primes};
 use crate::tool::WORD_BYTES;
 use crate::translation::{translate, Form};
 use crate::word::{spell, INSTRUCTIONS, SYMBOLS};
@@ -12,14 +13,13 @@ const INDICES: [&str; 10] =
     ["0", "9", "31", "32", "256", "287", "4294967296", "4294967327", "18446744073709551616", "340282366920938463463374607431768211456"];
 
 /// Lines that are nearly a spelling.
-pub const NEARLY: [&str; 40] = [
+pub const NEARLY: [&str; 63] = [
     "",
     " ",
     "X",
     "X0",
     "X0 <-",
     "X0 <- ",
-    "X <- 0",
     "x0 <- 0",
     "X0 <-0",
     "X0<- 0",
@@ -30,7 +30,6 @@ pub const NEARLY: [&str; 40] = [
     "X0 <- 1",
     "X00 <- 0",
     "X0 <- X00",
-    "X0 <- X",
     "X0 <- X0 + 2",
     "X0 <- X0 + 10",
     "X0 <- X0 +1",
@@ -42,7 +41,6 @@ pub const NEARLY: [&str; 40] = [
     "\0",
     "loop",
     "loop ",
-    "loop X",
     "loop  X0",
     "loop X0 ",
     "loop x0",
@@ -53,6 +51,32 @@ pub const NEARLY: [&str; 40] = [
     "while X0 != 1",
     "while X0 !=0",
     "endwhile X0 != 00",
+    "X3' <- 0",
+    "X'3 <- 0",
+    "X0' <- 0",
+    "X'0 <- 0",
+    "X ' <- 0",
+    "X' ' <- 0",
+    "'X <- 0",
+    "x' <- 0",
+    "X\" <- 0",
+    "X` <- 0",
+    "X\u{2019} <- 0",
+    "X\u{2032} <- 0",
+    "X' <- '",
+    "X' <- ''",
+    "X' <- X'0",
+    "X' <- X'' + 1",
+    "X <- X' + 1",
+    "X'' <- X2' + 1",
+    "X <- X + '",
+    "X<- 0",
+    "loop X'3",
+    "loop X3'",
+    "endloop X' ",
+    "while X'0 != 0",
+    "while X'",
+    "endwhile X'!= 0",
 ];
 
 /// Numbers of a setting that count as LOOP-only; some are 0 in their last 8, 16 or 31 bits.
@@ -179,7 +203,7 @@ pub fn texts() -> Vec<Vec<u8>> {
         found.push(lines(&["endloop X1".into(), line.into()]));
     }
     for size in program::BYTES - 1..=program::BYTES + 2 {
-        for byte in [b'\n', b'X', b'7', b'\0', 0xff] {
+        for byte in [b'\n', b'X', b'7', b'\'', b'\0', 0xff] {
             let mut text = vec![byte; size];
             text[0] = b'X';
             found.push(text.clone());
@@ -190,6 +214,40 @@ pub fn texts() -> Vec<Vec<u8>> {
     let cut = |text: &Vec<u8>| text[..text.len().saturating_sub(1)].to_vec();
     let cuts: Vec<_> = found.iter().filter(|t| t.len() < 99 || t.len() > 4000).map(cut).collect();
     found.extend(cuts);
+    found
+}
+
+/// Names in both spellings, of indices at the limit, past it and of thousands, and some that are in neither.
+fn names() -> Vec<String> {
+    let indices = [0, 1, 3, 9, 10, 30, 31, 32, 33, 40, 41, 255, 256, 288, 7_999, 8_000];
+    let beyond = ["8001", "16384", "65535", "65536", "65568", "4294967296", "4294967304", "18446744073709551616"];
+    let neither = ["X00", "X01", "X3'", "X'3", "X0'", "X'0", "X''0''", "X' ", "'", "0'"];
+    let both = indices.into_iter().flat_map(|index| [digits(index), primes(index)]);
+    both.chain(beyond.map(|index| format!("X{index}"))).chain(neither.map(String::from)).collect()
+}
+
+/// Texts that have names in either spelling, each two of them in each kind of line, good or not.
+pub fn spellings() -> Vec<Vec<u8>> {
+    let mut found = Vec::new();
+    for a in names() {
+        found.push(lines(&[format!("{a} <- 0")]));
+        found.push(lines(&["X' <- 0".into(), format!("while {a} != 0")]));
+        for b in names() {
+            found.push(lines(&[format!("{a} <- {b}")]));
+            found.push(lines(&[format!("{a} <- {b} + 1")]));
+            found.push(lines(&[format!("loop {a}"), format!("endloop {b}")]));
+            found.push(lines(&[format!("while {a} != 0"), "X <- 0".into(), format!("endwhile {b} != 0")]));
+        }
+    }
+    // one more prime is one byte more, and 1 and not 5
+    for count in program::BYTES - 8..program::BYTES - 5 {
+        found.push(lines(&[format!("{} <- 0", primes(count))]));
+        found.push(lines(&[format!("loop {}", primes(count + 1))]));
+    }
+    // 40 bytes a line, and 32: of these a text has room for 512
+    for line in [format!("{} <- X31", primes(31)), format!("{} <- {}", primes(13), primes(12))] {
+        found.extend([409, 410, 511, 512, 513].map(|count| lines(&vec![line.clone(); count])));
+    }
     found
 }
 
@@ -411,9 +469,39 @@ pub fn sheets() -> Vec<Vec<u8>> {
         "X0 X1 X2 X3\n1024 1024 1024 1024\n",
         "X3 X2 X1 X0\n4 3 2 1\n",
         "X1\n1\0\n",
+        "X\n1\n",
+        "X'\n1\n",
+        "X''' X\n1 2\n",
+        "X1 X'\n1 2\n",
+        "X' X1\n1 2\n",
+        "X X0\n1 2\n",
+        "X X\n1 2\n",
+        "X0 X1 X'' X'''\n1 2 3 4\n",
+        "X X' X'' X''' X0\n",
+        "X''''\n",
+        "X X''''\n",
+        "X3'\n",
+        "X'3\n",
+        "X0'\n",
+        "X'0\n",
+        "X' \n",
+        " X\n",
+        "X  X1\n",
+        "X,X'\n",
+        "XX'\n",
+        "'\n",
+        "X'\n'\n",
+        "X'\n'''\n",
+        "X'\nX\n",
+        "X'\n1'\n",
     ]
     .map(|s| s.into())
     .to_vec();
+    for count in [31, 32, 33, 255, 256, 257, 4_093, 4_094, 4_095] {
+        found.push(lines(&[primes(count)]));
+        found.push(lines(&[format!("X1 {}", primes(count)), "1 2".into()]));
+        found.push(lines(&[format!("{} X1'", primes(count))]));
+    }
     for size in [crate::sheet::BYTES - 1, crate::sheet::BYTES, crate::sheet::BYTES + 1] {
         found.push(vec![b'\n'; size]);
         found.push([b"X1\n".to_vec(), vec![b'9'; size - 4], b"\n".to_vec()].concat());

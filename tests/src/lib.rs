@@ -1,4 +1,4 @@
-//! The twin: document 01 and requests 1 and 2 of document 02 once more in plain Rust, separate code, written from documents 01 and 02 by
+//! The twin: document 01 and requests 1 to 3 of document 02 once more in plain Rust, separate code, written from documents 01 and 02 by
 //! the same hand as the definitions and after them. The library is held against it.
 
 pub mod believed;
@@ -12,6 +12,7 @@ pub mod program;
 pub mod random;
 pub mod sheet;
 pub mod source;
+pub mod spellings;
 pub mod tool;
 pub mod translation;
 pub mod word;

@@ -1,6 +1,8 @@
-//! The program text: commands, spellings, the list of three numbers a command, rules 1 to 8, and rule 20 of the LOOP-only lesson.
+//! The program text: commands, spellings, the list of three numbers a command, rules 1 to 8, and rule 20 of the LOOP-only lesson. Names
+//! are spelled in digits or, by request 3 of document 02, in primes.
 
 use crate::{refuse, Refusal};
+use std::borrow::Cow;
 
 pub const BYTES: usize = 16_384;
 pub const LINES: usize = 512;
@@ -38,6 +40,7 @@ impl Command {
         }
     }
 
+    /// "The writer always uses digits".
     pub fn spelling(self) -> String {
         match self {
             Command::Clear(i) => format!("X{i} <- 0"),
@@ -78,17 +81,27 @@ impl Command {
     }
 }
 
-/// The digits of a numeral without leading zero at the front, and what follows them.
-pub fn numeral(text: &[u8]) -> Option<(&[u8], &[u8])> {
+/// A number at the front of a text, as its digits without leading zero, which are the same for equal numbers of any size; and what
+/// follows.
+pub type Front<'a> = Option<(Cow<'a, [u8]>, &'a [u8])>;
+
+/// A numeral without leading zero.
+pub fn numeral(text: &[u8]) -> Front<'_> {
     let count = text.iter().take_while(|b| b.is_ascii_digit()).count();
     let (digits, rest) = text.split_at(count);
     let proper = count == 1 || (count > 1 && digits[0] != b'0');
-    proper.then_some((digits, rest))
+    proper.then_some((digits.into(), rest))
 }
 
-/// The digits of a name's index, and what follows the name.
-pub fn name(text: &[u8]) -> Option<(&[u8], &[u8])> {
-    numeral(text.strip_prefix(b"X")?)
+/// The index of a name, in whichever spelling, and what follows the name. "A variable may now be spelled as X and its index in primes, and
+/// a bare X is index 0".
+pub fn name(text: &[u8]) -> Front<'_> {
+    let index = text.strip_prefix(b"X")?;
+    if index.first().is_some_and(u8::is_ascii_digit) {
+        return numeral(index);
+    }
+    let primes = index.iter().take_while(|&&b| b == b'\'').count();
+    Some((primes.to_string().into_bytes().into(), &index[primes..]))
 }
 
 /// The number that digits spell, at most `u64::MAX`.
@@ -98,7 +111,7 @@ pub fn value(digits: &[u8]) -> u64 {
 
 fn whole_name(text: &[u8], back: &[u8]) -> Option<u64> {
     let (digits, rest) = name(text)?;
-    (rest == back).then(|| value(digits))
+    (rest == back).then(|| value(&digits))
 }
 
 /// The command that a line spells, if it is one of the spellings.
@@ -118,12 +131,12 @@ pub fn command(line: &[u8]) -> Option<Command> {
     let (to, rest) = name(line)?;
     let source = rest.strip_prefix(b" <- ")?;
     if source == b"0" {
-        return Some(Command::Clear(value(to)));
+        return Some(Command::Clear(value(&to)));
     }
     let (from, rest) = name(source)?;
     match rest {
-        b"" => Some(Command::Copy { to: value(to), from: value(from) }),
-        b" + 1" if to == from => Some(Command::Increment(value(to))),
+        b"" => Some(Command::Copy { to: value(&to), from: value(&from) }),
+        b" + 1" if to == from => Some(Command::Increment(value(&to))),
         _ => None,
     }
 }

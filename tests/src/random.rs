@@ -5,6 +5,7 @@ use crate::edges::{NEARLY, OTHER_FORMS, OTHER_SETTINGS};
 use crate::machine::{self, Machine};
 use crate::program::{list, variables, write, Command, Kind, Setting, OPEN};
 use crate::source::{self, State};
+use crate::spellings::{digits, primes, respelled};
 use crate::translation::translate;
 use crate::word::{spell, Instruction};
 
@@ -118,19 +119,64 @@ impl Random {
         }
     }
 
+    /// An index above the limit, or just below it; once in a while one of thousands.
+    fn large(&mut self) -> usize {
+        if self.once_in(4) {
+            1000 + self.below(6000)
+        } else {
+            30 + self.below(5)
+        }
+    }
+
+    /// A text whose names are in digits, with none, some or all of them in primes; once in a while one of its variables has a large index.
+    pub fn respell(&mut self, text: &[u8]) -> Vec<u8> {
+        let in_primes = self.pick(&[0, 0, 1, 2, 4]);
+        let moved = self.once_in(12).then(|| (self.below(3), self.large()));
+        respelled(text, |index| {
+            let index = moved.filter(|(from, _)| *from == index).map_or(index, |(_, to)| to);
+            self.name(index, in_primes)
+        })
+    }
+
+    /// A name, in primes so many times of four.
+    fn name(&mut self, index: usize, in_primes: usize) -> String {
+        if self.below(4) < in_primes {
+            primes(index)
+        } else {
+            digits(index)
+        }
+    }
+
+    /// An increment by its form, of a large index; its names are of one variable or nearly.
+    fn large_increment(&mut self) -> String {
+        let index = self.large();
+        let other = index - 1 + self.pick(&[0, 1, 1, 2]);
+        format!("{} <- {} + 1", self.name(index, 2), self.name(other, 2))
+    }
+
+    fn insert_line(&mut self, text: &mut Vec<u8>, line: &str) {
+        let starts: Vec<_> = [0].into_iter().chain((1..text.len()).filter(|&at| text[at - 1] == b'\n')).collect();
+        let at = self.pick(&starts);
+        text.splice(at..at, line.bytes().chain([b'\n']));
+    }
+
     /// A program's text, damaged or not.
     pub fn text(&mut self, setting: Setting) -> Vec<u8> {
-        let mut text = write(&self.sized_program(setting));
+        let written = write(&self.sized_program(setting));
+        let mut text = self.respell(&written);
         if self.once_in(3) {
             let times = 1 + self.below(3);
             for _ in 0..times {
-                self.damage(&mut text, b"X0123456789 <-+1=!loopendwhile\n\r\t\0\xff");
+                self.damage(&mut text, b"X0123456789'' <-+1=!loopendwhile\n\r\t\0\xff");
             }
         }
         if self.once_in(10) {
-            let starts: Vec<_> = [0].into_iter().chain((1..text.len()).filter(|&at| text[at - 1] == b'\n')).collect();
-            let at = self.pick(&starts);
-            text.splice(at..at, self.pick(&NEARLY).bytes().chain([b'\n']));
+            let line = self.pick(&NEARLY);
+            self.insert_line(&mut text, line);
+        }
+        if self.once_in(20) {
+            let line = self.large_increment();
+            self.insert_line(&mut text, &line);
         }
         if self.once_in(40) {
             text.resize(self.near(16_384, 16_384), b'\n');
@@ -162,8 +208,8 @@ impl Random {
                 text.splice(at..at, part);
             }
             4 => {
-                let digits = vec![b'1' + self.below(9) as u8; self.below(30)];
-                text.splice(at..at, digits);
+                let byte = if self.once_in(3) { b'\'' } else { b'1' + self.below(9) as u8 };
+                text.splice(at..at, vec![byte; self.below(30)]);
             }
             _ => text.insert(at, byte),
         }
@@ -314,9 +360,9 @@ impl Random {
             let values: Vec<_> = (0..names).map(|_| self.near(20, 1024).to_string()).collect();
             sheet += &(values.join(" ") + "\n");
         }
-        let mut sheet = sheet.into_bytes();
+        let mut sheet = self.respell(sheet.as_bytes());
         if self.once_in(3) {
-            self.damage(&mut sheet, b"X0123456789 \n\r\0");
+            self.damage(&mut sheet, b"X0123456789'' \n\r\0");
         }
         sheet
     }

@@ -1,6 +1,6 @@
-//! Run sheets: rules 16 to 18.
+//! Run sheets: rules 16 to 18. Names have either spelling, values are in digits.
 
-use crate::program::{name, numeral, value};
+use crate::program::{name, numeral, value, Front};
 use crate::{refuse, Refusal};
 
 pub const BYTES: usize = 4_096;
@@ -15,9 +15,9 @@ fn fields(line: &[u8]) -> Vec<&[u8]> {
     line.split(|&b| b == b' ').collect()
 }
 
-fn read_all(line: &[u8], one: fn(&[u8]) -> Option<(&[u8], &[u8])>) -> Option<Vec<u64>> {
+fn read_all(line: &[u8], one: fn(&[u8]) -> Front<'_>) -> Option<Vec<u64>> {
     let whole = |field: &[u8]| match one(field) {
-        Some((digits, b"")) => Some(value(digits)),
+        Some((digits, b"")) => Some(value(&digits)),
         _ => None,
     };
     fields(line).into_iter().map(whole).collect()

@@ -11,6 +11,7 @@ use twin::library::RunTool;
 use twin::machine::Machine;
 use twin::program::{list, read, variables, write, Setting};
 use twin::random::Random;
+use twin::spellings::every_choice;
 use twin::translation::{translate, Form};
 use twin::word::{self, spell, Instruction};
 use twin::{edges, source, Answer, End};
@@ -165,6 +166,18 @@ fn form_edges(tally: &mut Tally) {
     }
 }
 
+/// Texts with each two of the names at the limits, and a text in every choice of spelling.
+fn spelling_edges(tally: &mut Tally) {
+    for text in edges::spellings() {
+        program_edges(tally, ANY, &Program::Text(text), 9_999);
+    }
+    for (text, _) in edges::SAMPLES {
+        for text in every_choice(text) {
+            program_edges(tally, LOOP_ONLY, &Program::Text(text), 9_999);
+        }
+    }
+}
+
 /// Kinds and operands of a table.
 fn numbers(table: &[Instruction]) -> (Vec<u8>, Vec<u32>) {
     (table.iter().map(|i| i.kind).collect(), table.iter().map(|i| i.operand).collect())
@@ -234,6 +247,7 @@ fn at_limits(tally: &mut Tally) {
     }
     setting_edges(tally);
     form_edges(tally);
+    spelling_edges(tally);
     for (text, start) in edges::SAMPLES {
         sample_edges(tally, text, start);
     }
@@ -397,7 +411,7 @@ fn by_chance(tally: &mut Tally, random: &mut Random) {
 fn report_case(random: &mut Random) -> Case {
     let lines = random.below(9);
     let small = write(&random.program(Setting::Any, lines, 3));
-    let text = if random.once_in(4) { random.text(Setting::Any) } else { small };
+    let text = if random.once_in(4) { random.text(Setting::Any) } else { random.respell(&small) };
     let sheet = random.sheet(read(Setting::Any, &text).map_or(2, |c| variables(&c)));
     Case::Report { text, sheet }
 }
