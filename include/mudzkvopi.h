@@ -1,5 +1,5 @@
 /*
- * mudzkvopi.h: LOOP/WHILE programs, their 1# words, and runs of both. Version 3.
+ * mudzkvopi.h: LOOP/WHILE programs, their 1# words, and runs of both. Version 4.
  *
  * A host that translates a program, runs its word and shows its value (the tests compile and run
  * it):
@@ -77,7 +77,7 @@
 extern "C" {
 #endif
 
-#define MUDZKVOPI_VERSION 3
+#define MUDZKVOPI_VERSION 4
 
 /*
  * Stack, in bytes, for each call. These are measured, not proved: tests/stack.c calls each with the
@@ -139,9 +139,9 @@ enum mudzkvopi_rule {
     MUDZKVOPI_TEXT_TOO_LONG = 1,   /* the text is over 16384 bytes (place 0) */
     MUDZKVOPI_NO_LAST_LF = 2,      /* the text has bytes and its last isn't LF (the last line) */
     MUDZKVOPI_TOO_MANY_LINES = 3,  /* there are more than 512 lines (513) */
-    MUDZKVOPI_NO_COMMAND = 4,      /* a line is none of the spellings; a list's command is none, or
-                                      is cut short (the line) */
-    MUDZKVOPI_INDEX_TOO_HIGH = 5,  /* an index is above 31 (the line) */
+    MUDZKVOPI_NO_COMMAND = 4,      /* a line is none of the spellings, such as one with X3' or X07;
+                                      a list's command is none, or is cut short (the line) */
+    MUDZKVOPI_INDEX_TOO_HIGH = 5,  /* an index is above 31, in digits or in primes (the line) */
     MUDZKVOPI_TOO_DEEP = 6,        /* a pair opens with 16 open (the line) */
     MUDZKVOPI_NO_MATCH = 7,        /* a closing line doesn't match the innermost open pair, or none
                                       is open (the line) */
@@ -158,9 +158,10 @@ enum mudzkvopi_rule {
     MUDZKVOPI_NO_REGISTER = 15,    /* an add or cases names a register that the machine lacks (the
                                       start of the first such) */
     MUDZKVOPI_SHEET_SHAPE = 16,    /* a sheet is empty, too long or doesn't end in LF (0); a line
-                                      has the wrong shape or count (the line) */
-    MUDZKVOPI_SHEET_NAME = 17,     /* a name isn't one of the program's variables, or comes twice
-                                      (the line) */
+                                      has the wrong shape or count, such as a name X3', or a value
+                                      in primes (the line) */
+    MUDZKVOPI_SHEET_NAME = 17,     /* a name isn't one of the program's variables, or comes twice,
+                                      such as X1 and X' (the line) */
     MUDZKVOPI_SHEET_VALUE = 18,    /* a value is above the capacity (the line) */
     MUDZKVOPI_NO_ROOM = 19,        /* a lent output is shorter than the result (0) */
     MUDZKVOPI_NO_WHILE = 20        /* a `while` or `endwhile` line under the setting
@@ -186,6 +187,14 @@ uint32_t mudzkvopi_version(void);
  * numbers a command: the kind, the index of the variable, and the source's index of a copy, else 0.
  * Kinds: 1 X3 <- 0, 2 X3 <- X3 + 1, 3 X3 <- X5, 4 loop X3, 5 endloop X3, 6 while X3 != 0, 7
  * endwhile X3 != 0.
+ *
+ * Names. Wherever a text is read, the index of a name may be spelled in digits, without a leading
+ * zero, or in as many primes, which are bytes of 39: X3 or X''', and X0 or X. X3' is neither. The
+ * names in one line, and in the two lines of a pair, may be spelled differently: they are compared
+ * by index, and X3 <- X''' + 1 is an increment. A text that is written always has its names in
+ * digits. So a text that is read and written again is the same if it was in digits, and else
+ * another, which may be longer: X becomes X0. A sheet's names may have either spelling too, and its
+ * values are in digits.
  */
 
 /*
@@ -206,7 +215,10 @@ uint32_t mudzkvopi_version(void);
 uint64_t mudzkvopi_read_program(
     uint32_t setting, const uint8_t *text, size_t text_len, uint8_t *list, size_t list_len);
 
-/* Writes a list as a text. DONE: LOW the bytes. Rules 3; each line by 4, 5, 20, 6, 7; 8; 19. */
+/*
+ * Writes a list as a text, names in digits. DONE: LOW the bytes. Rules 3; each line by 4, 5, 20, 6,
+ * 7; 8; 19.
+ */
 uint64_t mudzkvopi_write_program(
     uint32_t setting, const uint8_t *list, size_t list_len, uint8_t *text, size_t text_len);
 

@@ -1,7 +1,7 @@
 /*
  * A host of the library in C: translates a program, prints its word as the label has it, runs the program and the word, and prints the
- * counts of both. Then the same from a list, a table run twice, a budget cut in two, a run that is full, values and the tidy form, the
- * LOOP-only setting, and refusals. What it writes is held to host-expected.txt.
+ * counts of both. Then the same from a list, a table run twice, a budget cut in two, a run that is full, names in primes, values and the
+ * tidy form, the LOOP-only setting, and refusals. What it writes is held to host-expected.txt.
  */
 #include <inttypes.h>
 #include <stdio.h>
@@ -13,6 +13,7 @@
 #define CAPACITY 1024
 
 static const char adder[] = "loop X1\nX0 <- X0 + 1\nendloop X1\n";
+static const char adder_in_primes[] = "loop X'\nX <- X0 + 1\nendloop X1\n";
 
 static uint8_t word[MUDZKVOPI_MAX_WORD];
 static uint8_t store[REGISTERS * CAPACITY];
@@ -114,19 +115,19 @@ static void label(void)
     run_both(adder, CAPACITY, 1, 0);
 }
 
-/* The same word from a list, and the text from the list. */
-static void from_list(void)
+/* The adder from a text that spells it: its list, the text that is written for that, and the same word from the list. */
+static void from_list(const char *spelled)
 {
     uint8_t list[MUDZKVOPI_MAX_LIST];
     uint8_t text[MUDZKVOPI_MAX_TEXT];
-    uint64_t read = mudzkvopi_read_program(MUDZKVOPI_ANY, (const uint8_t *)adder, strlen(adder), list, sizeof list);
+    uint64_t read = mudzkvopi_read_program(MUDZKVOPI_ANY, (const uint8_t *)spelled, strlen(spelled), list, sizeof list);
     size_t numbers = 3 * (size_t)MUDZKVOPI_LOW(read);
     uint64_t written = mudzkvopi_write_program(MUDZKVOPI_ANY, list, numbers, text, sizeof text);
     uint32_t state[MUDZKVOPI_STATE_NUMBERS];
 
     print_result("read_program", read);
     print_result("write_program", written);
-    printf("%s text\n", memcmp(text, adder, strlen(adder)) == 0 ? "the same" : "another");
+    printf("%s text\n", memcmp(text, adder, strlen(adder)) == 0 ? "the adder's" : "another");
     print_result("translate_list", mudzkvopi_translate_list(MUDZKVOPI_ANY, MUDZKVOPI_PLAIN, list, numbers, word, sizeof word));
     fresh_state(state, CAPACITY, 1, 3);
     print_result("run_source_list", mudzkvopi_run_source_list(MUDZKVOPI_ANY, list, numbers, state, MUDZKVOPI_STATE_NUMBERS, 100000));
@@ -236,6 +237,7 @@ static void refusals(void)
     uint32_t steps = 0;
 
     print_result("index 32", translate("X0 <- 0\nX32 <- 0\n"));
+    print_result("a prime after a digit", translate("X0 <- 0\nX3' <- 0\n"));
     print_result("left open", translate("loop X1\n"));
     print_result("no room", translate_as(MUDZKVOPI_PLAIN, adder, 82));
     print_result("room for the plain word", translate_as(MUDZKVOPI_PLAIN, adder, 100));
@@ -262,11 +264,13 @@ int main(void)
         return 1;
     }
     label();
-    from_list();
+    from_list(adder);
     instructions();
     table();
     cut_in_two();
     run_both("X0 <- X0 + 1\n", 2, 0, 2);
+    from_list(adder_in_primes);
+    run_both(adder_in_primes, CAPACITY, 1, 3);
     value(MUDZKVOPI_PLAIN);
     value(MUDZKVOPI_TIDY);
     value(7); /* counts as plain */

@@ -13,9 +13,9 @@ ghost use Rattle.host.specs.Entries.{ReadsWord, WritesWord, RunsOn, lent
 // The version of these entries.
 #[no_mangle]
 pub extern "C" fn mudzkvopi_version() -> u32
-    ensures { λ r. ⌜ r ≡ 3 ⌝ }
+    ensures { λ r. ⌜ r ≡ 4 ⌝ }
 {
-    3
+    4
 }
 
 // A text read into a lent list of three numbers a command: rules 1 to 8 under a setting, then 19.
