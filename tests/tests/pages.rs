@@ -62,24 +62,41 @@ fn example_folders() {
     }
 }
 
-/// The pages that show a program, its word and what is printed show those of examples/addition.
-#[test]
-fn addition_as_it_is_shown() {
-    let file = |name: &str| page(&format!("examples/addition/{name}"));
-    for shown in ["README.md", "docs/COURSE.md"] {
-        let shown = page(shown).lines().map(|l| l.trim().to_string() + "\n").collect::<String>();
-        for name in ["program.txt", "sheet.txt", "expected.txt", "label.txt"] {
-            assert!(shown.contains(&file(name)), "{name} of examples/addition");
-        }
+/// A page shows these files of an example as they are.
+fn shows(shown: &str, example: &str, names: &[&str]) {
+    let shown = page(shown).lines().map(|l| l.trim().to_string() + "\n").collect::<String>();
+    for name in names {
+        assert!(shown.contains(&page(&format!("examples/{example}/{name}"))), "{name} of examples/{example}");
     }
 }
 
-/// The symbols in the second cells of a table of COURSE.md, from a row on.
-fn decoded(section: &str, first: &str) -> String {
+#[test]
+fn examples_as_they_are_shown() {
+    for shown in ["README.md", "docs/COURSE.md"] {
+        shows(shown, "addition", &["program.txt", "sheet.txt", "expected.txt", "label.txt"]);
+    }
+    shows("docs/COURSE.md", "power", &["program.txt", "sheet.txt", "expected.txt"]);
+}
+
+/// The cells of a column, from 1, of a table of COURSE.md, from a row on.
+fn column(section: &str, first: &str, column: usize) -> Vec<String> {
     let course = page("docs/COURSE.md");
     let (_, section) = course.split_once(section).expect("the section");
     let rows = section.lines().skip_while(|l| !l.starts_with(first)).take_while(|l| l.starts_with('|'));
-    rows.map(|row| row.split('|').nth(2).expect("a second cell").trim().trim_matches('`').to_string()).collect()
+    rows.map(|row| row.split('|').nth(column).expect("a cell").trim().trim_matches('`').to_string()).collect()
+}
+
+/// The symbols in the second cells of such a table.
+fn decoded(section: &str, first: &str) -> String {
+    column(section, first, 2).concat()
+}
+
+/// The program that COURSE.md has in digits and in primes is one program, with the label that it shows.
+#[test]
+fn both_spellings() {
+    let labels = [1, 2].map(|n| tool::label((column("## Names in primes", "| `loop", n).join("\n") + "\n").as_bytes()));
+    assert_eq!(labels[0], labels[1]);
+    assert!(page("docs/COURSE.md").contains(&format!("It has one label, `{}`", labels[0].trim())));
 }
 
 /// The word that COURSE.md takes apart, one row of its table for each instruction, is the label of examples/addition.
