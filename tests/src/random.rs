@@ -128,13 +128,16 @@ impl Random {
         }
     }
 
-    /// A text whose names are in digits, with none, some or all of them in primes; once in a while one of its variables has a large index.
+    /// A text whose names are in digits, with none, some or all of them in primes; once in a while one of its variables has a large index,
+    /// or some of its names have the next one.
     pub fn respell(&mut self, text: &[u8]) -> Vec<u8> {
         let in_primes = self.pick(&[0, 0, 1, 2, 4]);
         let moved = self.once_in(12).then(|| (self.below(3), self.large()));
+        let slips = self.once_in(12);
         respelled(text, |index| {
             let index = moved.filter(|(from, _)| *from == index).map_or(index, |(_, to)| to);
-            self.name(index, in_primes)
+            let next = usize::from(slips && self.once_in(6));
+            self.name(index + next, in_primes)
         })
     }
 

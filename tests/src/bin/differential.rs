@@ -282,7 +282,7 @@ fn at_limits(tally: &mut Tally) {
         }
     }
     for sheet in edges::sheets() {
-        for text in [&b"loop X1\nX0 <- X3\nendloop X1\n"[..], b"", b"loop X1\n"] {
+        for text in [&b"loop X1\nX0 <- X3\nendloop X1\n"[..], b"loop X'\nX <- X'''\nendloop X1\n", b"", b"loop X1\n"] {
             tally.hold(Case::Report { text: text.to_vec(), sheet: sheet.clone() });
         }
     }
