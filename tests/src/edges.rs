@@ -217,13 +217,16 @@ pub fn texts() -> Vec<Vec<u8>> {
     found
 }
 
-/// Names in both spellings, of indices at the limit, past it and of thousands, and some that are in neither.
+/// Names in both spellings, of indices at the limit, past it and of thousands, some where numbers of 16, 32 or 64 bits start anew, and some
+/// that are in neither spelling.
 fn names() -> Vec<String> {
     let indices = [0, 1, 3, 9, 10, 30, 31, 32, 33, 40, 41, 255, 256, 288, 7_999, 8_000];
-    let beyond = ["8001", "16384", "65535", "65536", "65568", "4294967296", "4294967304", "18446744073709551616"];
+    let beyond = ["8001", "65535", "65536", "65576", "4294967296", "4294967336"];
+    let last = ["18446744073709551614", "18446744073709551615", "18446744073709551616", "18446744073709551617", "18446744073709551656"];
     let neither = ["X00", "X01", "X3'", "X'3", "X0'", "X'0", "X''0''", "X' ", "'", "0'"];
     let both = indices.into_iter().flat_map(|index| [digits(index), primes(index)]);
-    both.chain(beyond.map(|index| format!("X{index}"))).chain(neither.map(String::from)).collect()
+    let above = beyond.into_iter().chain(last).map(|index| format!("X{index}"));
+    both.chain(above).chain(neither.map(String::from)).collect()
 }
 
 /// Texts that have names in either spelling, each two of them in each kind of line, good or not.
