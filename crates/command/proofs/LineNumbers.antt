@@ -1,24 +1,26 @@
 -- Laws of the numbers of a line: what the reader found at its places, as the definitions' command.
 use mathlib.Core.Path.{_≡_, refl, sym, ap, _∙_}
+use mathlib.Core.Logic.{_≢_}
 use mathlib.Core.Bool.{Bool, true, false, cond, false≢true, true≢false}
-use mathlib.Core.Option.{Option, none, some, Option·map}
-use mathlib.Core.List.{[], _∷_, _++_}
-use Prim.Native.Nat.{ℕ, suc, _+_, _-_, _<_, _≤_}
+use mathlib.Core.Option.{Option, none, some, Option·map, Option·some-injective}
+use mathlib.Core.List.{[], _∷_}
+use Prim.Native.Nat.{ℕ, suc, _+_, _-_, _<_, _≤_, min}
 use native.Mathlib.Omega.{arith}
-use lib.Dec.{eqb}
-use borrow.Author.Tests.{eq-eqb, ne-eqb}
-use lib.ListN.{length, take, drop, length-append, length-drop, drop-of-length-le}
+use lib.Dec.{eqb, ltb}
+use borrow.Author.Tests.{eqb-true, eqb-false, eq-eqb, ne-eqb, ltb-true, ltb-false}
+use lib.ListN.{length, take, drop, length-append, length-drop, length-replicate, drop-of-length-le}
 use lib.Seq.{take-append-seam, drop-append-seam, take-add, drop-at, length-take-le, drop-drop, drop-cons}
-use Rattle.theory.specs.Text.{Bytes, bytes, Found, following, same, value-after, name, decimal, name-of}
+use Rattle.theory.specs.Text.{Bytes, bytes, Found, following, same, prime, name, name-of, Notation, by-digits, by-primes, name-by}
 use Rattle.theory.specs.Basics.{or-else}
-use Rattle.theory.specs.ProgramText.{clear, increment, copy, loop, while, Command, plain, opens, closes, around, assigns, command}
-use Rattle.theory.proofs.Numerals.{decimal-value, name-spelled}
-use Rattle.theory.proofs.Texts.{same-iff}
+use Rattle.theory.specs.ProgramText.{loop, while, clear, increment, copy, Command, plain, opens, closes, around, assigns, command}
+use Rattle.theory.proofs.Numerals.{found, name-written}
+use Rattle.theory.proofs.Spellings.{same-iff, name-alone}
+use Rattle.text.specs.Numbers.{found-in}
+use Rattle.text.specs.declared.Number.{Number}
+use Rattle.text.specs.declared.Number.the-variants.{To, No}
 use Rattle.command.specs.declared.Numbers.{Numbers}
-use Rattle.command.specs.declared.reading.Named.{Named}
-use Rattle.command.specs.declared.reading.Named.the-variants.{To, No}
-use Rattle.command.specs.Lines.{limited, is-some, found-in, no-numbers, of-kind, numbered, from-name, clears, increments, copies}
-use Rattle.command.specs.Lines.{assignment}
+use Rattle.command.specs.Lines.{limited, is-some, no-numbers, numbers-as, of-kind, numbered, from-name, most, alike}
+use Rattle.command.specs.Lines.{clears, increments, copies, assignment}
 
 -- What follows a word
 
@@ -47,44 +49,79 @@ after-is (b ∷ w) (c ∷ u) e = go (eqb b c) e (after-is w u)
 
 -- A name that was found
 
-pub record NameAt (s : Bytes) (at end index : ℕ) : Type 0 where
+pub record NameAt (s : Bytes) (at end number : ℕ) : Type 0 where
   pub value : ℕ
-  pub is : name (drop at s) ≡ some (record { value = value; rest = drop end s })
-  pub number : index ≡ limited value
-  pub spelled : name-of value ++ drop end s ≡ drop at s
-  pub size : at + length (name-of value) ≡ end
+  pub is : name (drop at s) ≡ some (found value (drop end s))
+  pub kept : number ≡ min value most
   pub within : end ≤ length s
 
-pub name-missing : (n : ℕ) (u : Bytes) {v : Named} → v ≡ found-in n (name u) → v ≡ No → name u ≡ none
+pub name-missing : (n : ℕ) (u : Bytes) {v : Number} → v ≡ found-in n most (name u) → v ≡ No → name u ≡ none
 name-missing n u e f = go (name u) (sym e ∙ f)
   where
-    go : (o : Option (Found ℕ)) → found-in n o ≡ No → o ≡ none
+    go : (o : Option (Found ℕ)) → found-in n most o ≡ No → o ≡ none
     go none g = refl
     go (some x) g = cc
 
-pub name-there : (s : Bytes) (at : ℕ) {end index : ℕ} {v : Named} → at ≤ length s → v ≡ found-in (length s) (name (drop at s))
-    → v ≡ To end index
-    → NameAt s at end index
-name-there s at {end} {index} h e f = go (name (drop at s)) refl (sym e ∙ f)
+pub name-there : (s : Bytes) (at : ℕ) {end number : ℕ} {v : Number} → at ≤ length s → v ≡ found-in (length s) most (name (drop at s))
+    → v ≡ To end number
+    → NameAt s at end number
+name-there s at {end} {number} h e f = go (name (drop at s)) refl (sym e ∙ f)
   where
-    go : (o : Option (Found ℕ)) → name (drop at s) ≡ o → found-in (length s) o ≡ To end index → NameAt s at end index
+    go : (o : Option (Found ℕ)) → name (drop at s) ≡ o → found-in (length s) most o ≡ To end number → NameAt s at end number
     go none g k = let z : _≡_ {A = ℕ} 0 1 = cc in absurd (omega arith)
     go (some x) g k =
-        let a : Bytes = name-of (x .value) in
-        let whole : a ++ x .rest ≡ drop at s = name-spelled (drop at s) x g .whole in
-        let long : length a + length (x .rest) ≡ length s - at = sym (length-append a (x .rest)) ∙ ap length whole ∙ length-drop at s in
+        let written : _ = name-written (drop at s) x g in
+        let a : Bytes = name-by (written .0) (x .value) in
+        let long : length a + length (x .rest) ≡ length s - at =
+        sym (length-append a (x .rest)) ∙ ap length (written .1) ∙ length-drop at s in
         let last : length s - length (x .rest) ≡ end = cc in
         let at-end : at + length a ≡ end = omega arith in
         let rest : x .rest ≡ drop end s =
-        sym (drop-append-seam a (x .rest)) ∙ ap (drop (length a)) whole ∙ drop-drop (length a) at s ∙ ap (λ m. drop m s) at-end in
-        record {
-          value = x .value;
-          is = g ∙ rw (← rest);
-          number = cc;
-          spelled = rw (← rest) whole;
-          size = at-end;
-          within = omega arith;
-        }
+        sym (drop-append-seam a (x .rest)) ∙ ap (drop (length a)) (written .1) ∙ drop-drop (length a) at s ∙ ap (λ m. drop m s) at-end in
+        record { value = x .value; is = g ∙ rw (← rest); kept = cc; within = omega arith }
+
+-- The one that begins the line
+abbrev pub name-first : (s : Bytes) (end : ℕ) {number : ℕ} (i : ℕ) → end ≤ length s → name s ≡ some (found i (drop end s))
+    → number ≡ min i most → NameAt s 0 end number
+name-first s end i h e f = record { value = i; is = e; kept = f; within = h }
+
+-- Its bytes, cut out of the line: in one notation or the other
+pub record CutOut (s : Bytes) (at end i : ℕ) : Type 0 where
+  pub notation : Notation
+  pub size : at + length (name-by notation i) ≡ end
+  pub same : drop at (take end s) ≡ name-by notation i
+
+pub cut-out : {s : Bytes} {at end number : ℕ} → at ≤ length s → (n : NameAt s at end number) → CutOut s at end (n .value)
+cut-out {s} {at} {end} h n =
+    let written : _ = name-written (drop at s) _ (n .is) in
+    let a : Bytes = name-by (written .0) (n .value) in
+    let long : length a + (length s - end) ≡ length s - at =
+    ap (λ m. length a + m) (sym (length-drop end s)) ∙ sym (length-append a (drop end s)) ∙ ap length (written .1) ∙ length-drop at s in
+    let at-end : at + length a ≡ end = omega (arith, n .within) in
+    let front : take (length a) (drop at s) ≡ a = ap (take (length a)) (sym (written .1)) ∙ take-append-seam a (drop end s) in
+    record {
+      notation = written .0;
+      size = at-end;
+      same = ap (λ m. drop at (take m s)) (sym at-end) ∙ ap (drop at) (take-add at (length a) s)
+          ∙ drop-at (take at s) (take (length a) (drop at s)) at (length-take-le at s h) ∙ front;
+    }
+
+pub name-room : {s : Bytes} {at end number : ℕ} → at ≤ length s → NameAt s at end number → at ≤ end
+name-room h n = omega (arith, cut-out h n .size)
+
+-- A number that is kept is told from others up to the largest, and in a byte up to 32
+low-enough : (i : ℕ) → limited (min i most) ≡ limited i
+low-enough i = omega arith
+
+numbers-kept : (k i j : ℕ) {m n : ℕ} → m ≡ min i most → n ≡ min j most → numbers-as k m n ≡ numbers-as k i j
+numbers-kept k i j e f = rw (e, f, low-enough i, low-enough j)
+
+not-same : (a b : Bytes) → (a ≡ b → ⊥) → same a b ≡ false
+not-same a b n = go (same a b) refl
+  where
+    go : (x : Bool) → same a b ≡ x → x ≡ false
+    go true e = absurd (n (same-iff a b .0 e))
+    go false e = refl
 
 -- A name between two words
 
@@ -97,52 +134,79 @@ module _ (k : ℕ) (front back s : Bytes) where
     pub pair-front : length front ≤ length s
     pair-front = after-is front s e .1
 
-    pub pair-no-name : {v : Named} → v ≡ found-in (length s) (name (drop (length front) s)) → v ≡ No
+    pub pair-no-name : {v : Number} → v ≡ found-in (length s) most (name (drop (length front) s)) → v ≡ No
         → no-numbers ≡ of-kind k (around front back s)
     unfolding around
     pair-no-name f g = rw (after-is front s e .0, name-missing (length s) (drop (length front) s) f g)
 
-    module _ {end index : ℕ} (n : NameAt s (length front) end index) where
-      pub pair-back : same back (drop end s) ≡ true → record { kind = k; index = index; source = 0 } ≡ of-kind k (around front back s)
+    module _ {end number : ℕ} (n : NameAt s (length front) end number) where
+      pub pair-back : same back (drop end s) ≡ true → numbers-as k number 0 ≡ of-kind k (around front back s)
       unfolding around
-      pair-back f = rw (after-is front s e .0, n .is, f, n .number)
+      pair-back f = rw (after-is front s e .0, n .is, f) (numbers-kept k (n .value) 0 (n .kept) refl)
 
       pub pair-no-back : same back (drop end s) ≡ false → no-numbers ≡ of-kind k (around front back s)
       unfolding around
       pair-no-back f = rw (after-is front s e .0, n .is, f)
 
+-- Two names, of one variable or not
+
+-- Numbers above the largest that is kept are in digits, since no line has as many primes
+large-in-digits : {s : Bytes} {at end i : ℕ} → end ≤ length s → length s ≤ most → most ≤ i → (c : CutOut s at end i)
+    → drop at (take end s) ≡ name-of i
+large-in-digits {s} {at} {end} {i} h l m c = go (c .notation) (c .size) (c .same)
+  where
+    go : (v : Notation) → at + length (name-by v i) ≡ end → drop at (take end s) ≡ name-by v i → drop at (take end s) ≡ name-of i
+    go by-digits e f = f
+    go by-primes e f = absurd (omega (arith, length-replicate i prime))
+
+-- The same bytes are read as the same number
+one-name : (v w : Notation) (i j : ℕ) → name-by v i ≡ name-by w j → i ≡ j
+one-name v w i j e =
+    let f : some (found i []) ≡ some (found j []) = sym (name-alone v i) ∙ ap name e ∙ name-alone w j in
+    ap (λ (x : Found ℕ). x .value) (Option·some-injective (found i []) (found j []) f)
+
+module _ {s : Bytes} {end number at last source : ℕ} (f : NameAt s 0 end number) (n : NameAt s at last source) where
+  pub alike-values : at ≤ length s → length s ≤ most → alike s end number at last source ≡ eqb (f .value) (n .value)
+  alike-values h l = go (ltb number most) (eqb (f .value) (n .value)) refl refl
+    where
+      a : CutOut s 0 end (f .value)
+      a = cut-out (omega arith) f
+
+      b : CutOut s at last (n .value)
+      b = cut-out h n
+
+      go : (x y : Bool) → ltb number most ≡ x → eqb (f .value) (n .value) ≡ y
+          → cond x (eqb number source) (same (take end s) (drop at (take last s))) ≡ y
+      go true true p q =
+          eq-eqb number source (f .kept ∙ ap (λ i. min i most) (eqb-true (f .value) (n .value) q) ∙ sym (n .kept))
+      go true false p q =
+          let m : number < most = ltb-true number most p in
+          let d : f .value ≢ n .value = eqb-false (f .value) (n .value) q in
+          ne-eqb number source (λ e. d (omega (arith, f .kept, n .kept)))
+      go false true p q =
+          let e : f .value ≡ n .value = eqb-true (f .value) (n .value) q in
+          let m : most ≤ f .value = omega (arith, ltb-false number most p, f .kept) in
+          let first : take end s ≡ name-of (f .value) = large-in-digits (f .within) l m a in
+          let second : drop at (take last s) ≡ name-of (n .value) = large-in-digits (n .within) l (omega (arith, e)) b in
+          same-iff _ _ .1 (first ∙ ap name-of e ∙ sym second)
+      go false false p q = not-same (take end s) (drop at (take last s))
+          (λ e. eqb-false (f .value) (n .value) q
+          (one-name (a .notation) (b .notation) (f .value) (n .value) (sym (a .same) ∙ e ∙ b .same)))
+
 -- Increments and copies
 
-names-alike : (i j : ℕ) (b : Bool) → same (name-of i) (name-of j) ≡ b → eqb i j ≡ b
-unfolding name-of
-names-alike i j true e =
-    let f : decimal i ≡ decimal j = cc (same-iff (name-of i) (name-of j) .0 e) in
-    eq-eqb i j (sym (decimal-value i) ∙ ap (value-after 0) f ∙ decimal-value j)
-names-alike i j false e = ne-eqb i j (λ f. true≢false (sym (same-iff (name-of i) (name-of j) .1 (ap name-of f)) ∙ e))
-
--- A name's bytes, cut out of the line
-pub cut-out : {s : Bytes} {at end index : ℕ} → at ≤ length s → (n : NameAt s at end index) → drop at (take end s) ≡ name-of (n .value)
-cut-out {s} {at} {end} h n =
-    let m : ℕ = length (name-of (n .value)) in
-    let front : take m (drop at s) ≡ name-of (n .value) = ap (take m) (sym (n .spelled))
-    ∙ take-append-seam (name-of (n .value)) (drop end s) in
-    rw (← n .size, take-add at m s, drop-at (take at s) (take m (drop at s)) at (length-take-le at s h), front)
-
-pub name-room : {s : Bytes} {at end index : ℕ} → NameAt s at end index → at ≤ length (take end s)
-name-room {s} {at} {end} n = omega (arith, length-take-le end s (n .within), n .size)
-
-module _ (s : Bytes) (end index : ℕ) (i : ℕ) (number : index ≡ limited i) where
+module _ {s : Bytes} {end number : ℕ} (f : NameAt s 0 end number) where
   abbrev from : Numbers
-  from = numbered (from-name i (drop (end + 4) s))
+  from = numbered (from-name (f .value) (drop (end + 4) s))
 
-  pub assigned-no-name : {v : Named} → v ≡ found-in (length s) (name (drop (end + 4) s)) → v ≡ No → no-numbers ≡ from
+  pub assigned-no-name : {v : Number} → v ≡ found-in (length s) most (name (drop (end + 4) s)) → v ≡ No → no-numbers ≡ from
   unfolding from-name
-  assigned-no-name f g = rw (name-missing (length s) (drop (end + 4) s) f g)
+  assigned-no-name e g = rw (name-missing (length s) (drop (end + 4) s) e g)
 
   module _ {last source : ℕ} (n : NameAt s (end + 4) last source) where
-    pub assigned-copy : length s ≤ last → record { kind = 3; index = index; source = source } ≡ from
+    pub assigned-copy : length s ≤ last → numbers-as 3 number source ≡ from
     unfolding from-name same
-    assigned-copy l = rw (n .is, drop-of-length-le s l, number, n .number)
+    assigned-copy l = rw (n .is, drop-of-length-le s l) (numbers-kept 3 (f .value) (n .value) (f .kept) (n .kept))
 
     module _ (l : last < length s) where
       more : same [] (drop last s) ≡ false
@@ -153,31 +217,26 @@ module _ (s : Bytes) (end index : ℕ) (i : ℕ) (number : index ≡ limited i) 
       unfolding from-name
       assigned-no-back e = rw (n .is, e, more)
 
-      pub assigned-increment : same (bytes " + 1") (drop last s) ≡ true → take end s ≡ name-of i → end + 4 ≤ length s
-          → same (take end s) (drop (end + 4) (take last s)) ≡ true → record { kind = 2; index = index; source = 0 } ≡ from
-      unfolding from-name
-      assigned-increment e f h g = rw (n .is, e, names-alike i (n .value) true (rw (f, cut-out h n) at g), number)
+      module _ (h : end + 4 ≤ length s) (m : length s ≤ most) (e : same (bytes " + 1") (drop last s) ≡ true) where
+        pub assigned-increment : alike s end number (end + 4) last source ≡ true → numbers-as 2 number 0 ≡ from
+        unfolding from-name
+        assigned-increment g = rw (n .is, e, sym (alike-values f n h m) ∙ g) (numbers-kept 2 (f .value) 0 (f .kept) refl)
 
-      pub assigned-other : same (bytes " + 1") (drop last s) ≡ true → take end s ≡ name-of i → end + 4 ≤ length s
-          → same (take end s) (drop (end + 4) (take last s)) ≡ false → no-numbers ≡ from
-      unfolding from-name
-      assigned-other e f h g = rw (n .is, e, names-alike i (n .value) false (rw (f, cut-out h n) at g), more)
+        pub assigned-other : alike s end number (end + 4) last source ≡ false → no-numbers ≡ from
+        unfolding from-name
+        assigned-other g = rw (n .is, e, sym (alike-values f n h m) ∙ g, more)
 
 -- A line that begins with a name, or does not
 
 module _ (s : Bytes) where
-  pub assignment-no-name : {v : Named} → v ≡ found-in (length s) (name s) → v ≡ No → no-numbers ≡ numbered (assignment s)
+  pub assignment-no-name : {v : Number} → v ≡ found-in (length s) most (name s) → v ≡ No → no-numbers ≡ numbered (assignment s)
   unfolding assignment around assigns following
   assignment-no-name f g = rw (name-missing (length s) s f g)
 
-  module _ {end index : ℕ} (n : NameAt s 0 end index) where
-    pub first-name : take end s ≡ name-of (n .value)
-    first-name = cut-out (omega arith) n
-
-    pub assignment-clear : same (bytes " <- 0") (drop end s) ≡ true
-        → record { kind = 1; index = index; source = 0 } ≡ numbered (assignment s)
+  module _ {end number : ℕ} (n : NameAt s 0 end number) where
+    pub assignment-clear : same (bytes " <- 0") (drop end s) ≡ true → numbers-as 1 number 0 ≡ numbered (assignment s)
     unfolding assignment around following
-    assignment-clear e = rw (n .is, e, n .number)
+    assignment-clear e = rw (n .is, e) (numbers-kept 1 (n .value) 0 (n .kept) refl)
 
     module _ (c : same (bytes " <- 0") (drop end s) ≡ false) where
       pub assignment-no-arrow : is-some (following (bytes " <- ") (drop end s)) ≡ false → no-numbers ≡ numbered (assignment s)

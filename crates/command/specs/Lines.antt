@@ -1,19 +1,14 @@
 -- What the code reads of a line: three numbers, indices limited to 32, which stands for all above 31.
-use mathlib.Core.Bool.{Bool, true, false}
+use mathlib.Core.Bool.{Bool, true, false, cond}
 use mathlib.Core.Option.{Option, none, some, Option·map}
 use mathlib.Core.Path.{_≡_}
 use Prim.Native.Nat.{ℕ, _+_, min}
-use lib.Dec.{eqb}
+use lib.Dec.{eqb, ltb}
 use lib.ListN.{take, drop}
 use Rattle.theory.specs.Basics.{given, or-else, and-then}
-use Rattle.theory.specs.Text.{Bytes, bytes, Found, same, name, name-of}
+use Rattle.theory.specs.Text.{Bytes, bytes, same, name}
 use Rattle.theory.specs.ProgramText.{clear, increment, copy, loop, while, Command, plain, opens, closes, around, assigns}
-use Rattle.text.specs.Numbers.{found-in as read-in}
-use Rattle.text.specs.declared.Number.{Number}
-use Rattle.text.specs.declared.Number.the-variants.{To as Read-to, No as Read-no}
 use Rattle.command.specs.declared.Numbers.{Numbers}
-use Rattle.command.specs.declared.reading.Named.{Named}
-use Rattle.command.specs.declared.reading.Named.the-variants.{To, No}
 
 abbrev pub limited : ℕ → ℕ
 limited n = min n 32
@@ -22,31 +17,26 @@ abbrev pub is-some : {A : Type 0} → Option A → Bool
 is-some none = false
 is-some (some x) = true
 
--- A name found in a line of n bytes: where it ends, and its index
-abbrev pub named : Number → Named
-named (Read-to end value) = To end value
-named Read-no = No
-
-abbrev pub found-in : ℕ → Option (Found ℕ) → Named
-found-in n o = named (read-in n 32 o)
-
 -- Kind 0, which no command has
 abbrev pub no-numbers : Numbers
 no-numbers = record { kind = 0; index = 0; source = 0 }
 
+abbrev pub numbers-as : ℕ → ℕ → ℕ → Numbers
+numbers-as k i j = record { kind = k; index = limited i; source = limited j }
+
 abbrev pub of-kind : ℕ → Option ℕ → Numbers
 of-kind k none = no-numbers
-of-kind k (some i) = record { kind = k; index = limited i; source = 0 }
+of-kind k (some i) = numbers-as k i 0
 
 abbrev pub numbered : Option Command → Numbers
 numbered none = no-numbers
-numbered (some (plain (clear i))) = record { kind = 1; index = limited i; source = 0 }
-numbered (some (plain (increment i))) = record { kind = 2; index = limited i; source = 0 }
-numbered (some (plain (copy i j))) = record { kind = 3; index = limited i; source = limited j }
-numbered (some (opens loop i)) = record { kind = 4; index = limited i; source = 0 }
-numbered (some (closes loop i)) = record { kind = 5; index = limited i; source = 0 }
-numbered (some (opens while i)) = record { kind = 6; index = limited i; source = 0 }
-numbered (some (closes while i)) = record { kind = 7; index = limited i; source = 0 }
+numbered (some (plain (clear i))) = numbers-as 1 i 0
+numbered (some (plain (increment i))) = numbers-as 2 i 0
+numbered (some (plain (copy i j))) = numbers-as 3 i j
+numbered (some (opens loop i)) = numbers-as 4 i 0
+numbered (some (closes loop i)) = numbers-as 5 i 0
+numbered (some (opens while i)) = numbers-as 6 i 0
+numbered (some (closes while i)) = numbers-as 7 i 0
 
 -- What an assignment to variable i is, by what stands after its arrow: an increment or a copy
 unfoldable pub from-name : ℕ → Bytes → Option Command
@@ -55,9 +45,19 @@ from-name i u =
     or-else (and-then (pair (bytes " + 1")) λ ij. given (eqb (ij .0) (ij .1)) (plain (increment (ij .0))))
     (Option·map (λ ij. plain (copy (ij .0) (ij .1))) (pair (bytes "")))
 
+-- The largest number of a name that is told from others
+abbrev pub most : ℕ
+most = 18446744073709551615
+
+-- The test whether the name that begins the line s and ends at `end`, of number `value`, is that of the variable whose name stands from
+-- `at` to `last`, of number `source`: both numbers are kept at the largest
+abbrev pub alike : Bytes → ℕ → ℕ → ℕ → ℕ → ℕ → Bool
+alike s end value at last source = cond (ltb value most) (eqb value source) (same (take end s) (drop at (take last s)))
+
 -- What the numbers r say of a line s that begins with a name, which ends at `end`, and has an arrow after it
 abbrev pub Assigned : Bytes → ℕ → ℕ → Numbers → Type 0
-Assigned s end index r = (i : ℕ) → take end s ≡ name-of i → index ≡ limited i → r ≡ numbered (from-name i (drop (end + 4) s))
+Assigned s end value r =
+    (i : ℕ) → name s ≡ some (record { value = i; rest = drop end s }) → value ≡ min i most → r ≡ numbered (from-name i (drop (end + 4) s))
 
 -- The first three spellings
 abbrev pub clears : Bytes → Option Command

@@ -8,18 +8,17 @@ use crate::LOOP;
 use crate::Numbers;
 use crate::WHILE;
 use text::Number;
+use text::name;
 ghost use mathlib.Core.Path.{_≡_};
 ghost use Prim.Native.Nat.{_+_, _≤_};
 ghost use lib.ListN.{length, drop};
-ghost use Rattle.theory.specs.Text.{following, same, name};
+ghost use Rattle.theory.specs.Text.{following, same};
 ghost use Rattle.theory.specs.ProgramText.{around, command};
-ghost use Rattle.command.specs.Lines.{is-some, found-in, of-kind, numbered, assignment as assignment-of, Assigned};
+ghost use Rattle.command.specs.Lines.{limited, is-some, numbers-as, of-kind, numbered, alike};
+ghost use Rattle.command.specs.Lines.{assignment as assignment-of, Assigned};
 
-// A name at a place of a line: where it ends, and its index.
-pub enum Named {
-    To { end: usize, index: u8 },
-    No,
-}
+// Numbers of names up to here are told apart. No line has as many primes, so what is larger is in digits.
+const MOST: u64 = 18446744073709551615;
 
 // What a line that is none of the spellings is read as.
 const NO_COMMAND: Numbers = Numbers {
@@ -28,16 +27,26 @@ const NO_COMMAND: Numbers = Numbers {
     source: 0,
 };
 
-// A name at a place of a line, with 32 for every index above 31.
-fn name_at(s: &[u8], at: usize) -> Named
-    ensures { λ r. ⌜ r ≡ found-in (length (now (s .entry))) (name (drop at (now (s .entry)))) ⌝ }
+// An index in a byte, with 32 for every one above 31.
+fn low(index: u64) -> u8
+    ensures { λ r. ⌜ r ≡ limited index ⌝ }
 {
-    match text::name(s, at, Numbers::INDEX as u64 + 1) {
-        Number::To { end, value } => Named::To {
-            end,
-            index: value as u8,
-        },
-        Number::No => Named::No,
+    let above = Numbers::INDEX + 1;
+    if index < above as u64 {
+        index as u8
+    } else {
+        above
+    }
+}
+
+// The numbers of a command of indices of any size.
+fn numbers(kind: u8, index: u64, source: u64) -> Numbers
+    ensures { λ r. ⌜ r ≡ numbers-as kind index source ⌝ }
+{
+    Numbers {
+        kind,
+        index: low(index),
+        source: low(source),
     }
 }
 
@@ -76,51 +85,51 @@ fn pair_line(s: &[u8], kind: u8, front: &[u8], back: &[u8]) -> Numbers
     ensures { λ r. ⌜ r ≡ of-kind kind (around (now (front .entry)) (now (back .entry)) (now (s .entry))) ⌝ }
 {
     if stands(s, 0, front) {
-        match name_at(s, front.len()) {
-            Named::To { end, index } => {
+        match name(s, front.len(), MOST) {
+            Number::To { end, value } => {
                 if ends(s, end, back) {
-                    return Numbers {
-                        kind,
-                        index,
-                        source: 0,
-                    };
+                    return numbers(kind, value, 0);
                 }
             }
-            Named::No => {}
+            Number::No => {}
         }
     }
     NO_COMMAND
 }
 
+// Whether two names of a line are one variable's: by their numbers, and above the largest by their bytes. The first begins the line.
+fn are_one(s: &[u8], end: usize, value: u64, at: usize, last: usize, source: u64) -> bool
+    requires { ⌜ (end ≤ length (now s)) × ((at ≤ last) × (last ≤ length (now s))) ⌝ }
+    ensures { λ r. ⌜ r ≡ alike (now (s .entry)) end value at last source ⌝ }
+{
+    if value < MOST {
+        value == source
+    } else {
+        ends(&s[..last], at, &s[..end])
+    }
+}
+
 // An increment or a copy of the variable whose name ends at a place of a line: by the name following the arrow.
-fn assigned(s: &[u8], end: usize, index: u8) -> Numbers
+fn assigned(s: &[u8], end: usize, value: u64) -> Numbers
     requires { ⌜ end + 4 ≤ length (now s) ⌝ }
-    ensures { λ r. ⌜ Assigned (now (s .entry)) end index r ⌝ }
+    ensures { λ r. ⌜ Assigned (now (s .entry)) end value r ⌝ }
 {
     let at = end + 4;
-    match name_at(s, at) {
-        Named::To {
+    match name(s, at, MOST) {
+        Number::To {
             end: last,
-            index: source,
+            value: source,
         } => {
             if s.len() <= last {
-                return Numbers {
-                    kind: COPY,
-                    index,
-                    source,
-                };
+                return numbers(COPY, value, source);
             }
             if ends(s, last, b" + 1") {
-                if ends(&s[..last], at, &s[..end]) {
-                    return Numbers {
-                        kind: INCREMENT,
-                        index,
-                        source: 0,
-                    };
+                if are_one(s, end, value, at, last, source) {
+                    return numbers(INCREMENT, value, 0);
                 }
             }
         }
-        Named::No => {}
+        Number::No => {}
     }
     NO_COMMAND
 }
@@ -129,20 +138,16 @@ fn assigned(s: &[u8], end: usize, index: u8) -> Numbers
 fn assignment(s: &[u8]) -> Numbers
     ensures { λ r. ⌜ r ≡ numbered (assignment-of (now (s .entry))) ⌝ }
 {
-    match name_at(s, 0) {
-        Named::To { end, index } => {
+    match name(s, 0, MOST) {
+        Number::To { end, value } => {
             if ends(s, end, b" <- 0") {
-                return Numbers {
-                    kind: CLEAR,
-                    index,
-                    source: 0,
-                };
+                return numbers(CLEAR, value, 0);
             }
             if stands(s, end, b" <- ") {
-                return assigned(s, end, index);
+                return assigned(s, end, value);
             }
         }
-        Named::No => {}
+        Number::No => {}
     }
     NO_COMMAND
 }

@@ -1,19 +1,21 @@
 -- Laws of what stands at a place of a text: digits, numerals and names.
 use mathlib.Core.Path.{_≡_, refl, sym, ap, ap₂, _∙_}
 use mathlib.Core.Bool.{Bool, true, false}
-use mathlib.Core.List.{[], _∷_}
-use Prim.Native.Nat.{ℕ, _+_, _-_, _*_, _<_, _≤_, min}
+use mathlib.Core.Option.{some}
+use mathlib.Core.List.{[], _∷_, _++_}
+use Prim.Native.Nat.{ℕ, suc, _+_, _-_, _*_, _<_, _≤_, min}
 use native.Mathlib.Nat.{add-zero}
 use native.Mathlib.Numerals.{add-one}
 use native.Mathlib.Omega.{arith}
 use borrow.Author.Tests.{leb-true, leb-false, lt-leb, le-leb, eq-eqb, ne-eqb}
-use lib.Dec.{leb}
-use lib.ListN.{length, getD, drop, length-append, length-drop, drop-of-length-le, List·getD-append}
+use lib.Dec.{eqb, leb}
+use lib.ListN.{length, getD, drop, replicate, length-append, length-drop, length-replicate, drop-of-length-le, List·getD-append}
 use lib.Seq.{drop-cons, getD-drop}
-use Rattle.theory.specs.Text.{Bytes, Found, digits, value-after, proper, numeral, name}
-use Rattle.theory.proofs.Numerals.{value-grows, digits-split}
+use Rattle.theory.specs.Text.{Bytes, Found, digits, value-after, proper, numeral, prime, primes, digit-first, index, name}
+use Rattle.theory.proofs.Numerals.{value-grows, digits-split, primes-whole}
 use Rattle.text.specs.declared.Number.the-variants.{To, No}
 use Rattle.text.specs.declared.Digits.{Digits}
+use Rattle.text.specs.Runs.{leading, run}
 use Rattle.text.specs.Numbers.{found-in, DigitsTo}
 
 -- Digits
@@ -93,19 +95,7 @@ module _ (s : Bytes) (at most : ℕ) where
   unfolding numeral digits
   no-numeral-end h = rw (drop-of-length-le s h)
 
-  pub no-name-end : length s ≤ at → No ≡ found-in (length s) most (name (drop at s))
-  unfolding name
-  no-name-end h = rw (drop-of-length-le s h)
-
   module _ (h : at < length s) where
-    pub no-name-X : (getD s at 0 ≡ 88 → ⊥) → No ≡ found-in (length s) most (name (drop at s))
-    unfolding name
-    no-name-X n = rw (drop-cons s at 0 h, ne-eqb (getD s at 0) 88 n)
-
-    pub name-X : getD s at 0 ≡ 88 → numeral (drop (at + 1) s) ≡ name (drop at s)
-    unfolding name
-    name-X X = rw (drop-cons s at 0 h, eq-eqb (getD s at 0) 88 X, add-one at)
-
     abbrev read : Found Bytes
     read = digits (drop at s)
 
@@ -142,3 +132,56 @@ module _ (s : Bytes) (at most : ℕ) where
         numeral-other z =
             let l : 0 < length (read .value) = omega (arith, d .end) in
             properly (proper-other (read .value) l (λ e. z (sym (first l) ∙ e)))
+
+-- Names
+
+module _ (s : Bytes) (at : ℕ) where
+  pub no-digit-end : length s ≤ at → false ≡ digit-first (drop at s)
+  no-digit-end h = rw (drop-of-length-le s h)
+
+  module _ (h : at < length s) where
+    pub no-digit-low : getD s at 0 < 48 → false ≡ digit-first (drop at s)
+    no-digit-low l = rw (drop-cons s at 0 h, lt-leb 48 (getD s at 0) l)
+
+    pub digit-high : 48 ≤ getD s at 0 → leb (getD s at 0) 57 ≡ digit-first (drop at s)
+    digit-high l = rw (drop-cons s at 0 h, le-leb 48 (getD s at 0) l)
+
+primes-run : (t : Bytes) → primes t .value ≡ run prime t
+unfolding primes leading
+primes-run [] = refl
+primes-run (b ∷ t) = go (eqb b prime) refl (primes-run t)
+  where
+    go : (x : Bool) → eqb b prime ≡ x → primes t .value ≡ run prime t → primes (b ∷ t) .value ≡ run prime (b ∷ t)
+    go true e h = rw e (ap suc h)
+    go false e h = rw e
+
+primes-long : (t : Bytes) → primes t .value + length (primes t .rest) ≡ length t
+primes-long t =
+    ap (λ n. n + length (primes t .rest)) (sym (length-replicate (primes t .value) prime))
+    ∙ sym (length-append (replicate (primes t .value) prime) (primes t .rest))
+    ∙ ap length (primes-whole t)
+
+module _ (s : Bytes) (at most : ℕ) where
+  pub primes-found : at ≤ length s → {value : ℕ} → value ≡ min (run prime (drop at s)) most
+      → To (at + run prime (drop at s)) value ≡ found-in (length s) most (some (primes (drop at s)))
+  primes-found h e =
+      ap₂ To (omega (arith, primes-run (drop at s), primes-long (drop at s), length-drop at s))
+      (e ∙ ap (λ n. min n most) (sym (primes-run (drop at s))))
+
+  pub no-name-end : length s ≤ at → No ≡ found-in (length s) most (name (drop at s))
+  unfolding name
+  no-name-end h = rw (drop-of-length-le s h)
+
+  module _ (h : at < length s) where
+    pub no-name-X : (getD s at 0 ≡ 88 → ⊥) → No ≡ found-in (length s) most (name (drop at s))
+    unfolding name
+    no-name-X n = rw (drop-cons s at 0 h, ne-eqb (getD s at 0) 88 n)
+
+module _ (s : Bytes) (at : ℕ) (h : at < length s) (X : getD s at 0 ≡ 88) where
+  pub name-in-digits : digit-first (drop (at + 1) s) ≡ true → numeral (drop (at + 1) s) ≡ name (drop at s)
+  unfolding name index
+  name-in-digits d = rw (drop-cons s at 0 h, eq-eqb (getD s at 0) 88 X, ← add-one at, d)
+
+  pub name-in-primes : digit-first (drop (at + 1) s) ≡ false → some (primes (drop (at + 1) s)) ≡ name (drop at s)
+  unfolding name index
+  name-in-primes d = rw (drop-cons s at 0 h, eq-eqb (getD s at 0) 88 X, ← add-one at, d)

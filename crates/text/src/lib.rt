@@ -1,10 +1,11 @@
 // What stands at a place of a text: how far a run goes, where a line ends, a numeral, a name. A place past the end has nothing at it. And
 // whether bytes are the symbols of a word.
 ghost use mathlib.Core.Path.{_≡_};
-ghost use Prim.Native.Nat.{_+_, _-_, _*_, min};
+ghost use mathlib.Core.Option.{some};
+ghost use Prim.Native.Nat.{_+_, _-_, _*_, _≤_, min};
 ghost use lib.ListN.{length, drop};
 ghost use Rattle.theory.specs.Basics.{all};
-ghost use Rattle.theory.specs.Text.{LF, numeral as numeral-of, name as name-of};
+ghost use Rattle.theory.specs.Text.{LF, numeral as numeral-of, digit-first, primes as primes-of, name as name-of};
 ghost use Rattle.theory.specs.Word.{is-symbol};
 ghost use Rattle.text.specs.Runs.{run, before};
 ghost use Rattle.text.specs.Numbers.{found-in, DigitsTo};
@@ -119,7 +120,31 @@ pub fn numeral(text: &[u8], at: usize, most: u64) -> Number
     }
 }
 
-// A name: an X and a numeral.
+// Whether a digit stands at a place.
+fn is_digit_at(text: &[u8], at: usize) -> bool
+    ensures { λ r. ⌜ r ≡ digit-first (drop at (now (text .entry))) ⌝ }
+{
+    if text.len() <= at {
+        return false;
+    }
+    let b = text[at];
+    if b < b'0' { false } else { b <= b'9' }
+}
+
+// An index in primes: how many stand at a place.
+fn primes(text: &[u8], at: usize, most: u64) -> Number
+    requires { ⌜ at ≤ length (now text) ⌝ }
+    ensures { λ r. ⌜ r ≡ found-in (length (now (text .entry))) most (some (primes-of (drop at (now (text .entry))))) ⌝ }
+{
+    let end = run_end(text, at, b'\'');
+    let count = (end - at) as u64;
+    Number::To {
+        end,
+        value: if count < most { count } else { most },
+    }
+}
+
+// A name: an X, and its index in digits or in primes.
 pub fn name(text: &[u8], at: usize, most: u64) -> Number
     ensures { λ r. ⌜ r ≡ found-in (length (now (text .entry))) most (name-of (drop at (now (text .entry)))) ⌝ }
 {
@@ -129,7 +154,11 @@ pub fn name(text: &[u8], at: usize, most: u64) -> Number
     if text[at] != b'X' {
         return Number::No;
     }
-    numeral(text, at + 1, most)
+    if is_digit_at(text, at + 1) {
+        numeral(text, at + 1, most)
+    } else {
+        primes(text, at + 1, most)
+    }
 }
 
 // How far two bytes are apart.

@@ -303,7 +303,7 @@ unfolding name name-of index
 name-name-by by-digits i r h = rw (decimal-first i r) (numeral-decimal i r (no-index-digit r h))
 name-name-by by-primes i r h = rw (primes-first i r h, primes-append i r h)
 
-primes-whole : (t : Bytes) → replicate (primes t .value) prime ++ primes t .rest ≡ t
+pub primes-whole : (t : Bytes) → replicate (primes t .value) prime ++ primes t .rest ≡ t
 unfolding primes
 primes-whole [] = refl
 primes-whole (b ∷ t) = go (eqb b prime) refl (primes-whole t)

@@ -167,7 +167,8 @@ text-in-digits [] = refl
 text-in-digits (c ∷ p) = rw (cut-in-digits (spelling c) (text-of p), spelling-in-digits c) (text-in-digits p)
 
 -- Lines that are read as a program are its lines
-pub text-of-lines : (ls : List Bytes) (p : List Command) → map some p ≡ map command ls → in-digits (joined ls) ≡ true → text-of p ≡ joined ls
+pub text-of-lines : (ls : List Bytes) (p : List Command) → map some p ≡ map command ls → in-digits (joined ls) ≡ true
+    → text-of p ≡ joined ls
 unfolding text-of
 text-of-lines [] [] h d = refl
 text-of-lines [] (c ∷ p) h d = cc

@@ -1,14 +1,14 @@
 -- `command::assignment` meets its contract: a name, and ` <- 0` or an arrow after it.
 use mathlib.Core.Path.{_∙_, sym}
 use native.Mathlib.Omega.{arith}
-use Rattle.command.proofs.LineNumbers.{name-there, assignment-no-name, first-name, assignment-clear, assignment-no-arrow}
+use Rattle.command.proofs.LineNumbers.{name-there, assignment-no-name, assignment-clear, assignment-no-arrow}
 use Rattle.command.proofs.LineNumbers.{assignment-room, assignment-from}
 use borrow.Author.Needs.{needs}
 use Rattle.command.proofs.reading.assignment.Statement.{statement}
 use Rattle.command.proofs.reading.assignment.Tie as tie
 
-name-at-requires : tie.Need-name-at-requires
-name-at-requires c κs = search needs
+name-requires : tie.Need-name-requires
+name-requires c κs = search needs
 
 enum-known-end : tie.Need-enum-known-end
 enum-known-end c = search needs
@@ -21,17 +21,19 @@ ends-requires c κs =
     let c4 = c .before .before .before .before in
     let c6 = c4 .before .before in
     let a = c6 .args in
-    let n = name-there (a .s .now) 0 (omega arith) (c4 .name-at .ensures) (c .before .before .end .given .1) in
+    let n = name-there (a .s .now) 0 (omega arith) (c4 .name .ensures) (c .before .before .end .given .1) in
     n .within
+
+numbers-requires : tie.Need-numbers-requires
+numbers-requires c κs = search needs
 
 returns : tie.Need-returns
 returns c =
-    let c4 = c .before .before .before .before in
-    let c6 = c4 .before .before in
-    let c8 = c6 .before .before in
-    let a = c8 .args in
-    let n = name-there (a .s .now) 0 (omega arith) (c6 .name-at .ensures) (c4 .end .given .1) in
-    assignment-clear (a .s .now) n (sym (c .before .ends .ensures) ∙ c .if1 .taken)
+    let c5 = c .before .before .before .before .before in
+    let c7 = c5 .before .before in
+    let a = c7 .before .before .args in
+    let n = name-there (a .s .now) 0 (omega arith) (c7 .name .ensures) (c5 .end .given .1) in
+    c .numbers .ensures ∙ assignment-clear (a .s .now) n (sym (c .before .before .ends .ensures) ∙ c .before .if1 .taken)
 
 slice-aggregate-stands : tie.Need-slice-aggregate-stands
 slice-aggregate-stands c = search needs
@@ -42,7 +44,7 @@ stands-requires c κs =
     let c7 = c5 .before .before in
     let c9 = c7 .before .before in
     let a = c9 .args in
-    let n = name-there (a .s .now) 0 (omega arith) (c7 .name-at .ensures) (c5 .end .given .1) in
+    let n = name-there (a .s .now) 0 (omega arith) (c7 .name .ensures) (c5 .end .given .1) in
     n .within
 
 assigned-requires : tie.Need-assigned-requires
@@ -52,7 +54,7 @@ assigned-requires c κs =
     let c9 = c7 .before .before in
     let c11 = c9 .before .before in
     let a = c11 .args in
-    let n = name-there (a .s .now) 0 (omega arith) (c9 .name-at .ensures) (c7 .end .given .1) in
+    let n = name-there (a .s .now) 0 (omega arith) (c9 .name .ensures) (c7 .end .given .1) in
     assignment-room (a .s .now) n (sym (c4 .ends .ensures) ∙ c .before .before .before .if1 .left)
     (sym (c .before .stands .ensures) ∙ c .if2 .taken)
 
@@ -64,8 +66,8 @@ returns-2 c =
     let c10 = c8 .before .before in
     let c12 = c10 .before .before in
     let a = c12 .args in
-    let n = name-there (a .s .now) 0 (omega arith) (c10 .name-at .ensures) (c8 .end .given .1) in
-    c .assigned .ensures (n .value) (first-name (a .s .now) n) (n .number)
+    let n = name-there (a .s .now) 0 (omega arith) (c10 .name .ensures) (c8 .end .given .1) in
+    c .assigned .ensures (n .value) (n .is) (n .kept)
     ∙ assignment-from (a .s .now) n (sym (c5 .ends .ensures) ∙ c4 .if1 .left)
     (sym (c .before .before .stands .ensures) ∙ c .before .if2 .taken)
 
@@ -79,22 +81,23 @@ returns-3 c =
     let c9 = c7 .before .before in
     let c11 = c9 .before .before in
     let a = c11 .args in
-    let n = name-there (a .s .now) 0 (omega arith) (c9 .name-at .ensures) (c7 .end .given .1) in
+    let n = name-there (a .s .now) 0 (omega arith) (c9 .name .ensures) (c7 .end .given .1) in
     assignment-no-arrow (a .s .now) n (sym (c4 .ends .ensures) ∙ c .before .before .before .if1 .left)
     (sym (c .before .stands .ensures) ∙ c .if2 .left)
 
 returns-4 : tie.Need-returns-4
 returns-4 c = let a = c .before .before .before .before .args in
-    assignment-no-name (a .s .now) (c .before .before .name-at .ensures) (c .enum-told .given .1)
+    assignment-no-name (a .s .now) (c .before .before .name .ensures) (c .enum-told .given .1)
 
 pub assignment-spec : {M : Type 1} → statement M
 assignment-spec =
     tie.close
     (tie.spec
-    name-at-requires
+    name-requires
     enum-known-end
     slice-aggregate-ends
     ends-requires
+    numbers-requires
     returns
     slice-aggregate-stands
     stands-requires

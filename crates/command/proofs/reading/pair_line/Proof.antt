@@ -9,8 +9,8 @@ use Rattle.command.proofs.reading.pair_line.Tie as tie
 stands-requires : tie.Need-stands-requires
 stands-requires c κs = search needs
 
-name-at-requires : tie.Need-name-at-requires
-name-at-requires c κs = tt
+name-requires : tie.Need-name-requires
+name-requires c κs = tt
 
 enum-known-end : tie.Need-enum-known-end
 enum-known-end c = search needs
@@ -22,19 +22,25 @@ ends-requires c κs =
     let c9 = c5 .before .before .before .before in
     let a = c9 .args in
     (name-there (a .s .now) (length (a .front .now)) (pair-front (a .kind) (a .front .now) (a .back .now) (a .s .now)
-    (sym (c5 .stands .ensures) ∙ c4 .if1 .taken)) (c .before .before .before .name-at .ensures) (c .before .end .given .1)) .within
+    (sym (c5 .stands .ensures) ∙ c4 .if1 .taken)) (c .before .before .before .name .ensures) (c .before .end .given .1)) .within
+
+numbers-requires : tie.Need-numbers-requires
+numbers-requires c κs = search needs
 
 returns : tie.Need-returns
 returns c =
-    let c5 = c .before .before .before .before .before in
-    let c6 = c5 .before in
+    let c1 = c .before in
+    let c6 = c1 .before .before .before .before .before in
     let c7 = c6 .before in
-    let c11 = c7 .before .before .before .before in
-    let a = c11 .args in
-    pair-back (a .kind) (a .front .now) (a .back .now) (a .s .now) (sym (c7 .stands .ensures) ∙ c6 .if1 .taken)
-    (name-there (a .s .now) (length (a .front .now)) (pair-front (a .kind) (a .front .now) (a .back .now) (a .s .now)
-    (sym (c7 .stands .ensures) ∙ c6 .if1 .taken)) (c5 .name-at .ensures) (c .before .before .before .end .given .1))
-    (sym (c .before .ends .ensures) ∙ c .if2 .taken)
+    let c8 = c7 .before in
+    let a = c8 .before .before .before .before .args in
+    let front = sym (c8 .stands .ensures) ∙ c7 .if1 .taken in
+    c .numbers .ensures
+    ∙ pair-back (a .kind) (a .front .now) (a .back .now) (a .s .now) front
+    (name-there (a .s .now) (length (a .front .now)) (pair-front (a .kind) (a .front .now) (a .back .now) (a .s .now) front)
+    (c6 .name .ensures)
+    (c1 .before .before .before .end .given .1))
+    (sym (c1 .before .ends .ensures) ∙ c1 .if2 .taken)
 
 enum-told : tie.Need-enum-told
 enum-told c = search needs
@@ -48,7 +54,7 @@ returns-2 c =
     let a = c11 .args in
     pair-no-back (a .kind) (a .front .now) (a .back .now) (a .s .now) (sym (c7 .stands .ensures) ∙ c6 .if1 .taken)
     (name-there (a .s .now) (length (a .front .now)) (pair-front (a .kind) (a .front .now) (a .back .now) (a .s .now)
-    (sym (c7 .stands .ensures) ∙ c6 .if1 .taken)) (c5 .name-at .ensures) (c .before .before .before .end .given .1))
+    (sym (c7 .stands .ensures) ∙ c6 .if1 .taken)) (c5 .name .ensures) (c .before .before .before .end .given .1))
     (sym (c .before .ends .ensures) ∙ c .if2 .left)
 
 returns-3 : tie.Need-returns-3
@@ -57,7 +63,7 @@ returns-3 c =
     let c8 = c4 .before .before .before .before in
     let a = c8 .args in
     pair-no-name (a .kind) (a .front .now) (a .back .now) (a .s .now) (sym (c4 .stands .ensures) ∙ c .before .before .before .if1 .taken)
-    (c .before .before .name-at .ensures) (c .enum-told .given .1)
+    (c .before .before .name .ensures) (c .enum-told .given .1)
 
 returns-4 : tie.Need-returns-4
 returns-4 c = let a = c .before .before .before .before .before .args in
@@ -68,9 +74,10 @@ pair-line-spec =
     tie.close
     (tie.spec
     stands-requires
-    name-at-requires
+    name-requires
     enum-known-end
     ends-requires
+    numbers-requires
     returns
     enum-told
     returns-2
