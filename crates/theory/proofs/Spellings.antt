@@ -90,12 +90,13 @@ assigns-some back t i j h =
     let i-read : i ≡ f .0 .value = ap (λ (p : ℕ × ℕ). p .0) (sym (s .1)) in
     let j-read : j ≡ g .0 .value = ap (λ (p : ℕ × ℕ). p .1) (sym (s .1)) in
     let source : name-by w j ++ back ≡ u .0 = ap₂ (λ n r. name-by w n ++ r) j-read behind ∙ second .1 in
-    let right : arrow ++ (name-by w j ++ back) ≡ f .0 .rest = ap (λ r. arrow ++ r) source ∙ following-some arrow (f .0 .rest) (u .0) (u .1) in
+    let behind-arrow : arrow ++ u .0 ≡ f .0 .rest = following-some arrow (f .0 .rest) (u .0) (u .1) in
+    let right : arrow ++ (name-by w j ++ back) ≡ f .0 .rest = ap (λ r. arrow ++ r) source ∙ behind-arrow in
     (v, w, ap₂ (λ n r. name-by v n ++ r) i-read right ∙ first .1)
 
 -- Commands
 
-name-alone : (v : Notation) (i : ℕ) → name (name-by v i) ≡ some (found i [])
+pub name-alone : (v : Notation) (i : ℕ) → name (name-by v i) ≡ some (found i [])
 name-alone v i = rw (append-nil (name-by v i)) at (name-name-by v i [] tt)
 
 -- The ways to read a line that are tried before the one that fits fail at its first bytes, or at what follows a name
@@ -105,7 +106,8 @@ command-of-spelling v w (plain (clear i)) = rw (name-name-by v i (bytes " <- 0")
 command-of-spelling v by-digits (plain (increment i)) =
     rw (name-name-by v i (arrow ++ (name-of i ++ bytes " + 1")) refl, name-name-by by-digits i (bytes " + 1") refl, eq-eqb i i refl)
 command-of-spelling v by-primes (plain (increment i)) =
-    rw (name-name-by v i (arrow ++ (name-by by-primes i ++ bytes " + 1")) refl, name-name-by by-primes i (bytes " + 1") refl, eq-eqb i i refl)
+    let second : Bytes = name-by by-primes i ++ bytes " + 1" in
+    rw (name-name-by v i (arrow ++ second) refl, name-name-by by-primes i (bytes " + 1") refl, eq-eqb i i refl)
 command-of-spelling v by-digits (plain (copy i j)) = rw (name-name-by v i (arrow ++ name-of j) refl, name-alone by-digits j)
 command-of-spelling v by-primes (plain (copy i j)) = rw (name-name-by v i (arrow ++ name-by by-primes j) refl, name-alone by-primes j)
 command-of-spelling v w (opens loop i) = rw (name-alone v i)
