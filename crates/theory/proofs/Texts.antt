@@ -217,7 +217,7 @@ lines-of-read t p h =
 
 pub text-round-trip : TextRoundTrip
 unfolding read-text-under
-text-round-trip = record { read = read; written = written; digits = text-in-digits }
+text-round-trip = record { read = λ p h. read p h; written = λ t p h d. written t p h d; digits = λ p. text-in-digits p }
   where
     read : (p : List Command) → Accepted p → read-text (text-of p) ≡ done p
     read p h = rw (text-accepted p h, text-lines-of p, present-some p)
