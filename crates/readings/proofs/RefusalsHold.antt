@@ -28,7 +28,7 @@ unfolding refusals limits texts spellings almost pairs primes primed-lines prime
 refusals-hold =
     let a : Hold limits = (refl, tt) in
     let b : Hold texts = (refl, (refl, (refl, (refl, (refl, (refl, (refl, (refl, tt)))))))) in
-    let c : Hold spellings = (refl, (refl, (refl, (refl, (refl, (refl, (refl, (refl, (refl, (refl, (refl, (refl, tt)))))))))))) in
+    let c : Hold spellings = (refl, (refl, (refl, (refl, (refl, (refl, (refl, (refl, (refl, (refl, (refl, (refl, (refl, tt))))))))))))) in
     let d : Hold almost = (refl, (refl, (refl, (refl, (refl, (refl, (refl, (refl, (refl, (refl, (refl, tt))))))))))) in
     let e : Hold pairs = (refl, (refl, (refl, (refl, (refl, (refl, (refl, (refl, (refl, (refl, (refl, (refl, tt)))))))))))) in
     let f : Hold primes = (refl, (refl, (refl, (refl, (refl, (refl, (refl, (refl, (refl, (refl, (refl, tt))))))))))) in

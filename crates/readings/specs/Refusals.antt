@@ -49,6 +49,7 @@ spellings =
     ∷ text (bytes "moop X0\n") (refuse 4 1)  -- every byte is compared
     ∷ text (bytes "X0 =- 0\n") (refuse 4 1)
     ∷ text (bytes "Y0 <- 0\n") (refuse 4 1)
+    ∷ text (bytes "x0 <- 0\n") (refuse 4 1)
     ∷ []
 
 -- Lines that are almost a spelling: only LF ends a line, and every other byte belongs to it

@@ -1,13 +1,13 @@
 -- What is handed back: lent outputs, words, runs and what the run tool prints.
 use mathlib.Core.Bool.{true, false}
-use mathlib.Core.Option.{none, some}
+use mathlib.Core.Option.{Option, none, some, Option·map}
 use mathlib.Core.List.{List, [], _∷_, _++_, map}
 use Prim.Native.Nat.{ℕ}
 use Prim.Native.String.{String}
 use lib.IntN.{ℤ, pos, negsuc}
 use lib.ListN.{replicate}
 use Rattle.theory.specs.Basics.{present}
-use Rattle.theory.specs.Text.{Bytes, bytes, by-digits, by-primes, name-by}
+use Rattle.theory.specs.Text.{Bytes, bytes, name, by-digits, by-primes, name-by}
 use Rattle.theory.specs.ProgramText.{clear, increment, copy, loop, while, plain, opens, closes, spelling-by, list-of, text-of}
 use Rattle.theory.specs.Translation.{word-text}
 use Rattle.theory.specs.Machines.{fresh-source, fresh-word, SourceState, Memory, Position, untidy, halted-only}
@@ -141,6 +141,10 @@ paid =
 abbrev pub seven-primed : String
 seven-primed = "X''' <- 0\nX3 <- X''' + 1\nX''' <- X5\nloop X'''\nendloop X3\nwhile X3 != 0\nendwhile X''' != 0\n"
 
+-- The index of the name that some bytes begin with
+abbrev pub index-of : String → Option ℕ
+index-of t = Option·map (λ f. f .value) (name (bytes t))
+
 -- What is read from primes, and its number of variables: one program in either notation; "The writer always uses digits"
 unfoldable pub notations : List Example
 notations =
@@ -157,6 +161,7 @@ notations =
     ∷ writes seven-primed seven
     ∷ row (T.program "X <- X'\n" 2 (0 ∷ 2 ∷ [])
     (gives filling-copy-word Halted 1 (2 ∷ 2 ∷ []) (T.shows Halted 21 (pos 14) ("11" ∷ "11" ∷ []))))
+    ∷ numbers (present (map index-of ("X" ∷ "X''" ∷ "X4'" ∷ "X'4" ∷ "X04" ∷ "X00'" ∷ "x5" ∷ "'X6" ∷ "" ∷ []))) (0 ∷ 2 ∷ 4 ∷ 1 ∷ [])
     ∷ []
 
 -- "texts in digits": a digit behind every X, in whatever text
