@@ -30,15 +30,15 @@ by-joined : (ls : List Line) → text-by ls ≡ joined (map line-by ls)
 by-joined [] = refl
 by-joined (l ∷ ls) = ap {B = Bytes} (λ t. line-by l ++ (LF ∷ t)) (by-joined ls)
 
-lines-by : (ls : List Line) → text-lines (text-by ls) ≡ map (λ l. some (l .meant)) ls
-lines-by ls = rw (by-joined ls) (lines-read line-by (λ l. l .meant) no-LF (λ l. command-of-spelling (l .first) (l .second) (l .meant)) ls)
+lines-by : (ls : List Line) → text-lines (text-by ls) ≡ map (λ l. some (l .command)) ls
+lines-by ls = rw (by-joined ls) (lines-read line-by (λ l. l .command) no-LF (λ l. command-of-spelling (l .first) (l .second) (l .command)) ls)
   where
     no-LF : (l : Line) → NoLF (line-by l)
-    no-LF l = spelling-no-LF (l .first) (l .second) (l .meant)
+    no-LF l = spelling-no-LF (l .first) (l .second) (l .command)
 
-lines-meant : (ls : List Line) → map (λ l. some (l .meant)) ls ≡ map some (program-by ls)
-lines-meant [] = refl
-lines-meant (l ∷ ls) = ap {B = List (Option Command)} (λ r. some (l .meant) ∷ r) (lines-meant ls)
+program-lines : (ls : List Line) → map (λ l. some (l .command)) ls ≡ map some (program-by ls)
+program-lines [] = refl
+program-lines (l ∷ ls) = ap {B = List (Option Command)} (λ r. some (l .command) ∷ r) (program-lines ls)
 
 -- The answer, by the program alone
 answer-to : Setting → List Command → Answer (List Command)
@@ -48,7 +48,7 @@ answer-by : (σ : Setting) (ls : List Line) → length (text-by ls) ≤ Limits.m
     → read-text-under σ (text-by ls) ≡ answer-to σ (program-by ls)
 unfolding read-text-under answer-to
 answer-by σ ls h =
-    let lines : text-lines (text-by ls) ≡ map some (program-by ls) = lines-by ls ∙ lines-meant ls in
+    let lines : text-lines (text-by ls) ≡ map some (program-by ls) = lines-by ls ∙ program-lines ls in
     let short : length (joined (map line-by ls)) ≤ Limits.most-bytes = rw (by-joined ls) at h in
     let fault : text-fault-under σ (text-by ls) ≡ program-fault-under σ (text-lines (text-by ls)) =
     rw (by-joined ls) (lines-fault-only σ (map line-by ls) short) in
@@ -70,7 +70,7 @@ spelled-by (l ∷ t) [] h = absurd (nil≢cons h)
 spelled-by (l ∷ t) (c ∷ p) h =
     let s : Spells l c = spelling-of-command l c (sym (head-eq-of-cons-eq h)) in
     let r : Spelled t p = spelled-by t p (tail-eq-of-cons-eq h) in (
-      record { meant = c; first = s .0; second = s .1 } ∷ r .0,
+      record { command = c; first = s .0; second = s .1 } ∷ r .0,
       ap₂ {C = Bytes} (λ u w. u ++ (LF ∷ w)) (s .2) (r .1),
       ap {B = List Command} (λ q. c ∷ q) (r .2),
     )

@@ -23,16 +23,16 @@ pub record EitherNotation : Type 0 where
 
 -- A command, and the notation of its first name and of its second
 pub record Line : Type 0 where
-  pub meant : Command
+  pub command : Command
   pub first : Notation
   pub second : Notation
 
 abbrev pub program-by : List Line → List Command
-program-by = map (λ l. l .meant)
+program-by = map (λ l. l .command)
 
 -- As `text-of`, in those notations
 abbrev pub line-by : Line → Bytes
-line-by l = spelling-by (l .first) (l .second) (l .meant)
+line-by l = spelling-by (l .first) (l .second) (l .command)
 
 abbrev pub text-by : List Line → Bytes
 text-by [] = []
@@ -40,11 +40,11 @@ text-by (l ∷ ls) = line-by l ++ (LF ∷ text-by ls)
 
 -- As the writer has it
 abbrev pub in-writing : Command → Line
-in-writing c = record { meant = c; first = by-digits; second = by-digits }
+in-writing c = record { command = c; first = by-digits; second = by-digits }
 
 pub record Respelled : Type 0 where
   -- Every text so spelled is read as its program, line by line
-  pub lines : (ls : List Line) → text-lines (text-by ls) ≡ map (λ l. some (l .meant)) ls
+  pub lines : (ls : List Line) → text-lines (text-by ls) ≡ map (λ l. some (l .command)) ls
   -- Two that differ in nothing but the notation of their names get the same answer, the program or the refusal, under either setting; rule
   -- 1, which counts bytes, may refuse one of them alone
   pub answer : (σ : Setting) (a b : List Line) → program-by a ≡ program-by b
