@@ -58,7 +58,7 @@ unfolding name-of
 name-without x l by-digits i = rw (ne-eqb 88 x (λ e. omega arith)) (digits-without x l (decimal i) (decimal-digits i))
 name-without x l by-primes i = rw (ne-eqb 88 x (λ e. omega arith)) (primes-without x l i)
 
-name-no-LF : (v : Notation) (i : ℕ) → NoLF (name-by v i)
+pub name-no-LF : (v : Notation) (i : ℕ) → NoLF (name-by v i)
 name-no-LF = name-without LF (omega arith)
 
 -- A name with a text behind it
