@@ -7,7 +7,7 @@ use Rattle.theory.specs.Basics.{EachOf}
 use Rattle.theory.specs.Text.{Bytes, bytes, LF}
 use Rattle.theory.specs.ProgramText.{plain, increment, spelling}
 use Rattle.theory.specs.TurnedDown.{refuse}
-use Rattle.readings.specs.Example.{Example, text, word, entries, machine, sheet, prints, Holds, times, passes, entry}
+use Rattle.readings.specs.Example.{Example, text, word, entries, machine, sheet, prints, Holds, times, primed, passes, entry}
 use Rattle.readings.specs.Results.{header}
 
 -- Texts of 16,384 bytes and one more, rules 2 and 1
@@ -15,6 +15,15 @@ unfoldable pub texts : List Example
 texts =
     text (replicate 16383 LF ++ bytes "z") (refuse 2 16384)  -- the place of 2 is not bounded by 513
     ∷ text (replicate 16385 0) (refuse 1 0)
+    ∷ []
+
+-- Names of as many primes as a text has room for and one more, rules 5 and 1; and a program that is short enough in digits alone
+unfoldable pub primes : List Example
+primes =
+    text (primed 16377 " <- 0\n") (refuse 5 1)
+    ∷ text (primed 16378 " <- 0\n") (refuse 1 0)
+    ∷ text (times 512 (primed 31 " <- 0\n")) (refuse 1 0)
+    ∷ text (times 512 (bytes "X31 <- 0\n")) passes
     ∷ []
 
 -- Words of 8,192 instructions and one more, rule 14
@@ -55,7 +64,7 @@ reports =
     ∷ []
 
 unfoldable pub largest : List (List Example)
-largest = texts ∷ words ∷ tables ∷ sheets ∷ reports ∷ []
+largest = texts ∷ primes ∷ words ∷ tables ∷ sheets ∷ reports ∷ []
 
 abbrev pub LargestHold : Type 0
 LargestHold = EachOf (EachOf Holds) largest

@@ -120,8 +120,8 @@ line =
     ∷ decimal (x i) ∷ [])
 
 pub budgets-hold : EachOf Holds budgets
-unfolding budgets T.following T.same T.digits T.value-after T.numeral T.name T.split-lines T.ends-in-LF T.split-blanks P.around P.assigns
-    P.command D.rule-1 D.rule-2 D.rule-3 D.lines-fault-under D.program-fault-under D.text-fault-under D.read-text-under H.names H.values
-    D.sheet-size-fault D.rows-fault D.sheet-fault W.spell-entries W.spell X.code X.word X.word-of X.word-text P.blocks P.block-of U.row
-    U.rows U.tool-fault U.tool-answer U.report
+unfolding budgets T.following T.same T.digits T.value-after T.numeral T.primes T.index T.name T.split-lines T.ends-in-LF T.split-blanks
+    P.around P.assigns P.command D.rule-1 D.rule-2 D.rule-3 D.lines-fault-under D.program-fault-under D.text-fault-under D.read-text-under
+    H.names H.values D.sheet-size-fault D.rows-fault D.sheet-fault W.spell-entries W.spell X.code X.word X.word-of X.word-text P.blocks
+    P.block-of U.row U.rows U.tool-fault U.tool-answer U.report
 budgets-hold = (ap (λ l. U.header ++ (l ++ [])) line, tt)

@@ -17,13 +17,13 @@ abbrev Hold : List Order → Type 0
 Hold = EachOf Answers
 
 pub orders-hold : EachOf (EachOf Answers) orders
-unfolding orders programs runs tidy words put T.following T.same T.digits T.value-after T.numeral T.name T.split-lines T.ends-in-LF
-    T.decimal-before T.decimal T.name-of P.around P.assigns P.command P.listed P.commands P.command-of P.list-of P.spelling P.text-of
-    P.blocks P.block-of R.run S.open-at S.depth S.step W.entries W.instruction-of W.spell-entries W.spell W.step X.code X.word X.word-of
-    X.word-text M.is-memory M.run-source M.run-word D.rule-1 D.rule-2 D.rule-3 D.lines-fault-under D.program-fault-under D.text-fault-under
-    D.read-text-under D.read-list-under D.is-source D.rule-9 D.rule-10 D.rule-11 D.first-failing D.rule-12 D.first-along D.rule-13 D.rule-14
-    D.rule-15 D.word-fault D.table-rule-11 D.table-fault D.read-word D.read-table D.read-word-for D.read-table-for D.rule-19
-    D.read-program-into D.write-program-into D.translate-into D.run-from D.read-word-into D.write-word-into F.clears F.tidy-word
+unfolding orders programs runs tidy words put T.following T.same T.digits T.value-after T.numeral T.primes T.index T.name T.split-lines
+    T.ends-in-LF T.decimal-before T.decimal T.name-of P.around P.assigns P.command P.listed P.commands P.command-of P.list-of P.spelling
+    P.text-of P.blocks P.block-of R.run S.open-at S.depth S.step W.entries W.instruction-of W.spell-entries W.spell W.step X.code X.word
+    X.word-of X.word-text M.is-memory M.run-source M.run-word D.rule-1 D.rule-2 D.rule-3 D.lines-fault-under D.program-fault-under
+    D.text-fault-under D.read-text-under D.read-list-under D.is-source D.rule-9 D.rule-10 D.rule-11 D.first-failing D.rule-12 D.first-along
+    D.rule-13 D.rule-14 D.rule-15 D.word-fault D.table-rule-11 D.table-fault D.read-word D.read-table D.read-word-for D.read-table-for
+    D.rule-19 D.read-program-into D.write-program-into D.translate-into D.run-from D.read-word-into D.write-word-into F.clears F.tidy-word
     F.tidy-word-of F.tidy-text
 orders-hold =
     let a : Hold programs = (refl, (refl, (refl, (refl, (refl, (refl, (refl, (refl, (refl, (refl, tt)))))))))) in

@@ -1,5 +1,6 @@
 -- The kinds of example, and what each says. Its rows are in Refusals and Results.
 use mathlib.Core.Path.{_≡_}
+use mathlib.Core.Bool.{Bool}
 use mathlib.Core.Option.{Option, none, some}
 use mathlib.Core.List.{List, [], _++_, map}
 use Prim.Native.Nat.{ℕ, zero, suc, _*_}
@@ -7,8 +8,8 @@ use Prim.Native.String.{String}
 use lib.IntN.{ℤ}
 use lib.ListN.{length, getD, replicate}
 use Rattle.theory.specs.Basics.{cells}
-use Rattle.theory.specs.Text.{Bytes, bytes}
-use Rattle.theory.specs.ProgramText.{Command, indices, variables}
+use Rattle.theory.specs.Text.{Bytes, bytes, in-digits}
+use Rattle.theory.specs.ProgramText.{Command, indices, variables, text-of, list-of}
 use Rattle.theory.specs.Runs.{Outcome, run, within}
 use Rattle.theory.specs.Source as S
 use Rattle.theory.specs.Word as W
@@ -68,6 +69,12 @@ pub data Example : Type 0 where
   fills : List Entry → Answer (List Entry) → Option Refusal → List Entry → Example
   -- the indices that each line names
   names : String → List (List ℕ) → Example
+  -- what a text is read as, in numbers; how many variables it has; the text that is written of it
+  reads : String → List ℕ → Example
+  counts : String → ℕ → Example
+  writes : String → String → Example
+  -- whether a text is in digits
+  digits : String → Bool → Example
   -- a row as those of the table: a program with its word and both runs, or a word with its run
   row : T.Row → Example
   -- the charge of the step that a program is about to do, in each of some states
@@ -123,6 +130,10 @@ Holds (sheet K t r) = sheet-fault 1024 K t ≡ r
 Holds (output lent a r l) = lends lent a ≡ (r, l)
 Holds (fills lent a r l) = lends lent a ≡ (r, l)
 Holds (names t is) = mapped (map indices) (read-text (bytes t)) ≡ done is
+Holds (reads t l) = mapped list-of (read-text (bytes t)) ≡ done l
+Holds (counts t K) = mapped variables (read-text (bytes t)) ≡ done K
+Holds (writes t u) = mapped text-of (read-text (bytes t)) ≡ done (bytes u)
+Holds (digits t b) = in-digits (bytes t) ≡ b
 Holds (row r) = T.Holds r
 Holds (charges t ss l) = mapped (λ p. map (λ s. charge p (s .state)) ss) (read-text (bytes t)) ≡ done l
 Holds (runs t s budget e) =
@@ -138,6 +149,10 @@ Holds (prints t s out) = report t s ≡ bytes out
 abbrev pub times : ℕ → Bytes → Bytes
 times zero t = []
 times (suc n) t = t ++ times n t
+
+-- A variable by so many primes, whatever stands behind it
+abbrev pub primed : ℕ → String → Bytes
+primed n t = bytes "X" ++ (times n (bytes "'") ++ bytes t)
 
 abbrev pub passes : Option Refusal
 passes = none

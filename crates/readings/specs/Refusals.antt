@@ -7,7 +7,7 @@ use Rattle.theory.specs.Text.{bytes, LF}
 use Rattle.theory.specs.RunSheet as H
 use Rattle.theory.specs.TurnedDown.{refuse}
 use Rattle.readings.specs.Example.{Example, text, list, lesson, list-lesson, word, entries, machine, table, source, memory}
-use Rattle.readings.specs.Example.{sheet, names, numbers, times, passes, entry, state, fresh, nested, loop-in-while}
+use Rattle.readings.specs.Example.{sheet, names, numbers, times, primed, passes, entry, state, fresh, nested, loop-in-while}
 use Rattle.readings.specs.Example.{register, empty, several}
 
 -- The limits, in the order of Limits
@@ -49,6 +49,7 @@ spellings =
     ∷ text (bytes "moop X0\n") (refuse 4 1)  -- every byte is compared
     ∷ text (bytes "X0 =- 0\n") (refuse 4 1)
     ∷ text (bytes "Y0 <- 0\n") (refuse 4 1)
+    ∷ text (bytes "x0 <- 0\n") (refuse 4 1)
     ∷ []
 
 -- Lines that are almost a spelling: only LF ends a line, and every other byte belongs to it
@@ -57,7 +58,7 @@ almost =
     text (bytes "X3 <- X3 \n") (refuse 4 1)
     ∷ text (bytes "X3 <- X3 +\n") (refuse 4 1)
     ∷ text (bytes "X3 <- X3 + 1 \n") (refuse 4 1)
-    ∷ text (bytes "X <- 0\n") (refuse 4 1)
+    ∷ text (bytes "XX0 <- 0\n") (refuse 4 1)
     ∷ text (bytes "X0 <-  0\n") (refuse 4 1)
     ∷ text (bytes "while X0\n") (refuse 4 1)
     ∷ text (bytes "loop X0 != 0\n") (refuse 4 1)
@@ -82,6 +83,82 @@ pairs =
     ∷ text (bytes "while X0 != 0\nendloop X0\n") (refuse 7 2)
     ∷ text (bytes "loop X0\nendwhile X0 != 0\n") (refuse 7 2)
     ∷ text (bytes "loop X0\nendloop X1\n") (refuse 7 2)
+    ∷ []
+
+-- "A variable may now be spelled as X and its index in primes": rules 4 and 5 in a name
+unfoldable pub primes : List Example
+primes =
+    text (bytes "X''' <- 0\n") passes
+    ∷ text (bytes "X <- 0\n") passes  -- "a bare X is index 0"
+    ∷ text (bytes "X3' <- 0\n") (refuse 4 1)
+    ∷ text (bytes "X0' <- 0\n") (refuse 4 1)
+    ∷ text (bytes "X'3 <- 0\n") (refuse 4 1)
+    ∷ text (bytes "X'0 <- 0\n") (refuse 4 1)
+    ∷ text (bytes "X00 <- 0\n") (refuse 4 1)  -- improper digits are no bare X
+    ∷ text (bytes "X32' <- 0\n") (refuse 4 1)  -- 4 before 5
+    ∷ text (bytes "X ' <- 0\n") (refuse 4 1)
+    ∷ text (bytes "X\" <- 0\n") (refuse 4 1)  -- two primes are two bytes, each an apostrophe
+    ∷ text (88 ∷ 226 ∷ 128 ∷ 178 ∷ bytes " <- 0\n") (refuse 4 1)
+    ∷ []
+
+-- "more than 31 primes is 5"; "One line … may spell their variable both ways", and it is one variable by its index, of any size
+unfoldable pub primed-lines : List Example
+primed-lines =
+    text (primed 31 " <- 0\n") passes
+    ∷ text (primed 32 " <- 0\n") (refuse 5 1)
+    ∷ text (bytes "X <- " ++ primed 32 "\n") (refuse 5 1)
+    ∷ text (bytes "X3 <- X''' + 1\n") passes
+    ∷ text (bytes "X''' <- X3 + 1\n") passes
+    ∷ text (bytes "X <- X0 + 1\n") passes
+    ∷ text (bytes "X3 <- X'' + 1\n") (refuse 4 1)
+    ∷ text (bytes "X40 <- " ++ primed 40 " + 1\n") (refuse 5 1)
+    ∷ text (bytes "X40 <- " ++ primed 41 " + 1\n") (refuse 4 1)
+    ∷ text (primed 40 " <- X40 + 1\n") (refuse 5 1)
+    ∷ text (primed 41 " <- X40 + 1\n") (refuse 4 1)
+    ∷ text (primed 40 " <- " ++ primed 41 " + 1\n") (refuse 4 1)
+    ∷ []
+
+-- "or the two lines of a pair"
+unfoldable pub primed-pairs : List Example
+primed-pairs =
+    text (bytes "loop X''\nendloop X2\n") passes
+    ∷ text (bytes "loop X2\nendloop X''\n") passes
+    ∷ text (bytes "loop X\nendloop X0\n") passes
+    ∷ text (bytes "while X'' != 0\nendwhile X2 != 0\n") passes
+    ∷ text (bytes "while X0 != 0\nendwhile X != 0\n") passes
+    ∷ text (bytes "loop X''\nendloop X3\n") (refuse 7 2)
+    ∷ text (bytes "loop X2\nendloop X'''\n") (refuse 7 2)
+    ∷ text (bytes "while X != 0\nendwhile X1 != 0\n") (refuse 7 2)
+    ∷ text (bytes "endloop " ++ primed 32 "\n") (refuse 5 1)  -- in a line the lower number
+    ∷ text (bytes "loop X3'\n") (refuse 4 1)
+    ∷ lesson (bytes "loop X'\nendloop X1\n") passes passes
+    ∷ lesson (bytes "while X' != 0\nendwhile X1 != 0\n") passes (refuse 20 1)
+    ∷ []
+
+-- "in a names line 16 and 17"; "`X1` and `X'` in one names line come twice"
+unfoldable pub primed-names : List Example
+primed-names =
+    sheet 2 (bytes "X'\n") passes
+    ∷ sheet 1 (bytes "X'\n") (refuse 17 1)
+    ∷ sheet 1 (bytes "X\n") passes
+    ∷ sheet 0 (bytes "X\n") (refuse 17 1)
+    ∷ sheet 32 (bytes "X3'\n") (refuse 16 1)
+    ∷ sheet 32 (bytes "X'3\n") (refuse 16 1)
+    ∷ sheet 32 (primed 31 "\n") passes
+    ∷ sheet 32 (primed 32 "\n") (refuse 17 1)
+    ∷ sheet 2 (bytes "X1 X'\n") (refuse 17 1)
+    ∷ sheet 2 (bytes "X X0\n") (refuse 17 1)
+    ∷ sheet 2 (bytes "X' X\n") passes
+    ∷ sheet 2 (bytes "X '\n") (refuse 16 1)
+    ∷ []
+
+-- A value is no index, and has no primes
+unfoldable pub primed-values : List Example
+primed-values =
+    sheet 2 (bytes "X'\n'''\n") (refuse 16 2)
+    ∷ sheet 2 (bytes "X'\nX'\n") (refuse 16 2)
+    ∷ sheet 2 (bytes "X'\n1'\n") (refuse 16 2)
+    ∷ sheet 2 (bytes "X'\n1\n") passes
     ∷ []
 
 -- Lists of numbers handed in
@@ -293,5 +370,5 @@ lines =
 -- All of them
 unfoldable pub refusals : List (List Example)
 refusals =
-    limits ∷ texts ∷ spellings ∷ almost ∷ pairs ∷ lists ∷ lessons ∷ lesson-lines ∷ list-lessons ∷ words ∷ tables ∷ machines ∷ places
-    ∷ states ∷ memories ∷ layouts ∷ sheets ∷ named ∷ lines ∷ []
+    limits ∷ texts ∷ spellings ∷ almost ∷ pairs ∷ primes ∷ primed-lines ∷ primed-pairs ∷ primed-names ∷ primed-values ∷ lists ∷ lessons
+    ∷ lesson-lines ∷ list-lessons ∷ words ∷ tables ∷ machines ∷ places ∷ states ∷ memories ∷ layouts ∷ sheets ∷ named ∷ lines ∷ []

@@ -1,13 +1,14 @@
 -- What is handed back: lent outputs, words, runs and what the run tool prints.
-use mathlib.Core.Option.{none, some}
+use mathlib.Core.Bool.{true, false}
+use mathlib.Core.Option.{Option, none, some, Option·map}
 use mathlib.Core.List.{List, [], _∷_, _++_, map}
 use Prim.Native.Nat.{ℕ}
 use Prim.Native.String.{String}
 use lib.IntN.{ℤ, pos, negsuc}
 use lib.ListN.{replicate}
 use Rattle.theory.specs.Basics.{present}
-use Rattle.theory.specs.Text.{Bytes, bytes}
-use Rattle.theory.specs.ProgramText.{list-of, text-of}
+use Rattle.theory.specs.Text.{Bytes, bytes, name, by-digits, by-primes, name-by}
+use Rattle.theory.specs.ProgramText.{clear, increment, copy, loop, while, plain, opens, closes, spelling-by, list-of, text-of}
 use Rattle.theory.specs.Translation.{word-text}
 use Rattle.theory.specs.Machines.{fresh-source, fresh-word, SourceState, Memory, Position, untidy, halted-only}
 use Rattle.theory.specs.TurnedDown.{Answer, mapped, refuse}
@@ -18,7 +19,8 @@ use Rattle.theory.specs.declared.End.the-variants.{Halted, Strayed, Spent, Full
 use Rattle.bench.specs.Table as T
 use Rattle.tidy.specs.Forms.{tidy-charges}
 use Rattle.tidy.specs.declared.Form.the-variants.{Plain, Tidy}
-use Rattle.readings.specs.Example.{Example, output, fills, row, charges, runs, word-runs, value, form, numbers, spelled, prints}
+use Rattle.readings.specs.Example.{Example, output, fills, reads, counts, writes, digits, row, charges}
+use Rattle.readings.specs.Example.{runs, word-runs, value, form, numbers, spelled, prints}
 use Rattle.readings.specs.Example.{SourceShown, WordShown, FormShown, passes, has, entry, state, fresh, nested, loop-in-while}
 use Rattle.readings.specs.Example.{register, several}
 
@@ -133,6 +135,67 @@ paid =
     charges seven (along 2) (10 ∷ 1 ∷ 28 ∷ 33 ∷ 2 ∷ 2 ∷ 1 ∷ [])
     ∷ charges seven (along 1) (10 ∷ 1 ∷ 28 ∷ 33 ∷ 3 ∷ 2 ∷ 1 ∷ [])
     ∷ charges "X5 <- X3\nX3 <- X3\nX0 <- 0\nloop X0\nendloop X0\n" (along 1) (38 ∷ 2 ∷ 2 ∷ 6 ∷ 3 ∷ 0 ∷ 0 ∷ [])
+    ∷ []
+
+-- The same program, its names in either notation
+abbrev pub seven-primed : String
+seven-primed = "X''' <- 0\nX3 <- X''' + 1\nX''' <- X5\nloop X'''\nendloop X3\nwhile X3 != 0\nendwhile X''' != 0\n"
+
+-- The index of the name that some bytes begin with
+abbrev pub index-of : String → Option ℕ
+index-of t = Option·map (λ f. f .value) (name (bytes t))
+
+-- What is read from primes, and its number of variables: one program in either notation; "The writer always uses digits"
+unfoldable pub notations : List Example
+notations =
+    reads "X''' <- 0\n" (1 ∷ 3 ∷ 0 ∷ [])
+    ∷ reads "X <- X\n" (3 ∷ 0 ∷ 0 ∷ [])
+    ∷ reads "X3 <- X''' + 1\n" (2 ∷ 3 ∷ 0 ∷ [])
+    ∷ reads "X' <- X2\nX2 <- X'\n" (3 ∷ 1 ∷ 2 ∷ 3 ∷ 2 ∷ 1 ∷ [])
+    ∷ reads "loop X\nendloop X0\n" (4 ∷ 0 ∷ 0 ∷ 5 ∷ 0 ∷ 0 ∷ [])
+    ∷ reads seven-primed seven-listed
+    ∷ counts "X <- 0\n" 1
+    ∷ counts "X' <- X'''\n" 4
+    ∷ counts seven-primed 6
+    ∷ writes "X <- X\n" "X0 <- X0\n"
+    ∷ writes seven-primed seven
+    ∷ row (T.program "X <- X'\n" 2 (0 ∷ 2 ∷ [])
+    (gives filling-copy-word Halted 1 (2 ∷ 2 ∷ []) (T.shows Halted 21 (pos 14) ("11" ∷ "11" ∷ []))))
+    ∷ numbers (present (map index-of ("X" ∷ "X''" ∷ "X4'" ∷ "X'4" ∷ "X04" ∷ "X00'" ∷ "x5" ∷ "'X6" ∷ "" ∷ []))) (0 ∷ 2 ∷ 4 ∷ 1 ∷ [])
+    ∷ []
+
+-- "texts in digits": a digit behind every X, in whatever text
+unfoldable pub digit-texts : List Example
+digit-texts =
+    digits "" true
+    ∷ digits "X" false
+    ∷ digits "X'" false
+    ∷ digits "XX1" false
+    ∷ digits "X1X" false
+    ∷ digits "X1" true
+    ∷ digits "loop X\n" false
+    ∷ digits "X1 <- X'\n" false
+    ∷ digits "X' <- X1\n" false
+    ∷ digits "zzz'\n" true
+    ∷ digits seven-primed false
+    ∷ digits seven true
+    ∷ []
+
+-- The spellings by the notation of each name
+unfoldable pub spelled-names : List Example
+spelled-names =
+    spelled (name-by by-primes 0) "X"
+    ∷ spelled (name-by by-primes 3) "X'''"
+    ∷ spelled (name-by by-digits 3) "X3"
+    ∷ spelled (spelling-by by-primes by-digits (plain (clear 1))) "X' <- 0"
+    ∷ spelled (spelling-by by-primes by-digits (plain (increment 1))) "X' <- X1 + 1"
+    ∷ spelled (spelling-by by-digits by-primes (plain (increment 1))) "X1 <- X' + 1"
+    ∷ spelled (spelling-by by-primes by-digits (plain (copy 1 2))) "X' <- X2"
+    ∷ spelled (spelling-by by-digits by-primes (plain (copy 1 2))) "X1 <- X''"
+    ∷ spelled (spelling-by by-primes by-digits (opens loop 1)) "loop X'"
+    ∷ spelled (spelling-by by-primes by-digits (closes loop 1)) "endloop X'"
+    ∷ spelled (spelling-by by-primes by-digits (opens while 1)) "while X' != 0"
+    ∷ spelled (spelling-by by-primes by-digits (closes while 1)) "endwhile X' != 0"
     ∷ []
 
 -- The end of a run of a source, its steps, line, first values and passes left
@@ -265,6 +328,18 @@ printed-runs =
     ∷ prints (bytes "X0 <- X1\n") (bytes "X1 X0\n7 2\n") "source-end source-steps word-end word-steps X0\nhalted 1 halted 60 7\n"
     ∷ []
 
+-- The same of programs and sheets with primes
+unfoldable pub primed-runs : List Example
+primed-runs =
+    prints (bytes "loop X'\nX <- X0 + 1\nendloop X1\n") (bytes "X'\n3\n0\n")
+    "source-end source-steps word-end word-steps X0\nhalted 7 halted 37 3\nhalted 1 halted 7 0\n"
+    ∷ prints (bytes "X <- X'\n") (bytes "X' X\n7 2\n") "source-end source-steps word-end word-steps X0\nhalted 1 halted 60 7\n"
+    ∷ prints (bytes "X <- X'''\n") (bytes "X''''\n") "refused 17 1\n"
+    ∷ prints (bytes "X <- X'''\n") (bytes "X'''\n") header
+    ∷ prints (bytes "X3' <- 0\n") (bytes "X3'\n") "refused 4 1\n"
+    ∷ prints (bytes "X''' <- 0\n") (bytes "X3'\n") "refused 16 1\n"
+    ∷ []
+
 -- Its budgets: endless runs
 unfoldable pub budgets : List Example
 budgets =
@@ -274,4 +349,6 @@ budgets =
 
 -- All of them
 unfoldable pub results : List (List Example)
-results = outputs ∷ programs ∷ paid ∷ ends ∷ loops ∷ word-ends ∷ word-steps ∷ values ∷ forms ∷ reports ∷ printed-runs ∷ budgets ∷ []
+results =
+    outputs ∷ programs ∷ paid ∷ notations ∷ digit-texts ∷ spelled-names ∷ ends ∷ loops ∷ word-ends ∷ word-steps ∷ values ∷ forms ∷ reports
+    ∷ printed-runs ∷ primed-runs ∷ budgets ∷ []

@@ -90,8 +90,8 @@ assigns-some back t i j h =
     let i-read : i ≡ f .0 .value = ap (λ (p : ℕ × ℕ). p .0) (sym (s .1)) in
     let j-read : j ≡ g .0 .value = ap (λ (p : ℕ × ℕ). p .1) (sym (s .1)) in
     let source : name-by w j ++ back ≡ u .0 = ap₂ (λ n r. name-by w n ++ r) j-read behind ∙ second .1 in
-    let right : arrow ++ (name-by w j ++ back) ≡ f .0 .rest =
-    ap (λ r. arrow ++ r) source ∙ following-some arrow (f .0 .rest) (u .0) (u .1) in
+    let behind-arrow : arrow ++ u .0 ≡ f .0 .rest = following-some arrow (f .0 .rest) (u .0) (u .1) in
+    let right : arrow ++ (name-by w j ++ back) ≡ f .0 .rest = ap (λ r. arrow ++ r) source ∙ behind-arrow in
     (v, w, ap₂ (λ n r. name-by v n ++ r) i-read right ∙ first .1)
 
 -- Commands

@@ -15,8 +15,10 @@ use Rattle.theory.specs.Text.{onto-first, split-lines, ends-in-LF}
 use Rattle.theory.specs.ProgramText.{clear, increment, copy, loop, while, Command, plain, opens, closes}
 use Rattle.theory.specs.ProgramText.{spelling-by, spelling, text-of, command}
 use Rattle.theory.specs.TurnedDown.{done, rule-1, rule-2}
-use Rattle.theory.specs.TurnedDown.{text-lines, text-fault, text-fault-under, read-text, read-text-under}
+use Rattle.theory.specs.TurnedDown.{text-lines, program-fault-under, text-fault, text-fault-under, read-text, read-text-under}
 use Rattle.theory.specs.Claims.{Accepted, TextRoundTrip}
+use Rattle.theory.specs.declared.Setting.{Setting}
+use Rattle.theory.specs.declared.Setting.the-variants.{Any}
 use Rattle.theory.proofs.Faults.{none-first, none-second, unless-none, and-first, and-second}
 use Rattle.theory.proofs.Nesting.{LowIndices, low, short, nothing-missing, text-read, text-sound}
 use Rattle.theory.proofs.Lists.{present-some}
@@ -25,8 +27,12 @@ use Rattle.theory.proofs.Spellings.{arrow, command-of-spelling, in-digi
 
 -- Lines
 
+-- A byte does not occur
+abbrev pub Without : ℕ → Bytes → Type 0
+Without x l = all (λ b. not (eqb b x)) l ≡ true
+
 abbrev pub NoLF : Bytes → Type 0
-NoLF l = all (λ b. not (eqb b LF)) l ≡ true
+NoLF = Without LF
 
 -- The first line of a text is what stands before its first LF
 pub split-first : (l t : Bytes) → NoLF l → split-lines (l ++ (LF ∷ t)) ≡ l ∷ split-lines t
@@ -36,20 +42,24 @@ split-first (b ∷ l) t h =
     let other : eqb b LF ≡ false = not-true (eqb b LF) (and-first (not (eqb b LF)) _ h) in
     rw (other, split-first l t (and-second (not (eqb b LF)) _ h))
 
-digits-no-LF : (d : Bytes) → all is-digit d ≡ true → NoLF d
-digits-no-LF [] h = refl
-digits-no-LF (b ∷ d) h =
+-- LF and blank come before every byte of a name
+digits-without : (x : ℕ) → x < prime → (d : Bytes) → all is-digit d ≡ true → Without x d
+digits-without x l [] h = refl
+digits-without x l (b ∷ d) h =
     let least : 48 ≤ b = digit-least b (and-first (is-digit b) _ h) in
-    rw (ne-eqb b LF (λ e. omega arith)) (digits-no-LF d (and-second (is-digit b) _ h))
+    rw (ne-eqb b x (λ e. omega arith)) (digits-without x l d (and-second (is-digit b) _ h))
 
-primes-no-LF : (n : ℕ) → NoLF (replicate n prime)
-primes-no-LF zero = refl
-primes-no-LF (suc n) = primes-no-LF n
+primes-without : (x : ℕ) → x < prime → (n : ℕ) → Without x (replicate n prime)
+primes-without x l zero = refl
+primes-without x l (suc n) = rw (ne-eqb prime x (λ e. omega arith)) (primes-without x l n)
+
+pub name-without : (x : ℕ) → x < prime → (v : Notation) (i : ℕ) → Without x (name-by v i)
+unfolding name-of
+name-without x l by-digits i = rw (ne-eqb 88 x (λ e. omega arith)) (digits-without x l (decimal i) (decimal-digits i))
+name-without x l by-primes i = rw (ne-eqb 88 x (λ e. omega arith)) (primes-without x l i)
 
 pub name-no-LF : (v : Notation) (i : ℕ) → NoLF (name-by v i)
-unfolding name-of
-name-no-LF by-digits i = digits-no-LF (decimal i) (decimal-digits i)
-name-no-LF by-primes i = primes-no-LF i
+name-no-LF = name-without LF (omega arith)
 
 -- A name with a text behind it
 named-no-LF : (v : Notation) (i : ℕ) (t : Bytes) → NoLF t → NoLF (name-by v i ++ t)
@@ -64,25 +74,31 @@ spelling-no-LF v w (closes loop i) = name-no-LF v i
 spelling-no-LF v w (opens while i) = named-no-LF v i (bytes " != 0") refl
 spelling-no-LF v w (closes while i) = named-no-LF v i (bytes " != 0") refl
 
-pub split-text : (p : List Command) → split-lines (text-of p) ≡ map spelling p
-unfolding text-of split-lines spelling
-split-text [] = refl
-split-text (c ∷ p) =
-    split-first (spelling c) (text-of p) (spelling-no-LF by-digits by-digits c) ∙ ap {B = List Bytes} (λ ls. spelling c ∷ ls) (split-text p)
-
-pub text-lines-of : (p : List Command) → text-lines (text-of p) ≡ map some p
-unfolding spelling
-text-lines-of p = ap (map command) (split-text p) ∙ read p
-  where
-    read : (p : List Command) → map command (map spelling p) ≡ map some p
-    read [] = refl
-    read (c ∷ p) = ap₂ {C = List (Option Command)} _∷_ (command-of-spelling by-digits by-digits c) (read p)
-
--- Lines with LF after each: the text again, where its last byte is LF
+-- Lines with LF after each
 abbrev pub joined : List Bytes → Bytes
 joined [] = []
 joined (l ∷ ls) = l ++ (LF ∷ joined ls)
 
+-- Lines that each spell a command are read as those commands
+module _ {A : Type 0} (line : A → Bytes) (meant : A → Command) where
+  pub lines-read : ((a : A) → NoLF (line a)) → ((a : A) → command (line a) ≡ some (meant a))
+      → (l : List A) → text-lines (joined (map line l)) ≡ map (λ a. some (meant a)) l
+  unfolding split-lines
+  lines-read n r [] = refl
+  lines-read n r (a ∷ l) =
+      ap (map command) (split-first (line a) (joined (map line l)) (n a)) ∙ ap₂ {C = List (Option Command)} _∷_ (r a) (lines-read n r l)
+
+pub text-joined : (p : List Command) → text-of p ≡ joined (map spelling p)
+unfolding text-of
+text-joined [] = refl
+text-joined (c ∷ p) = ap {B = Bytes} (λ t. spelling c ++ (LF ∷ t)) (text-joined p)
+
+pub text-lines-of : (p : List Command) → text-lines (text-of p) ≡ map some p
+unfolding spelling
+text-lines-of p =
+    rw (text-joined p) (lines-read spelling (λ c. c) (spelling-no-LF by-digits by-digits) (command-of-spelling by-digits by-digits) p)
+
+-- The text again, where its last byte is LF
 joined-first : (b : ℕ) (ls : List Bytes) (c : ℕ) (t : Bytes) → joined ls ≡ c ∷ t → joined (onto-first b ls) ≡ b ∷ c ∷ t
 joined-first b [] c t h = cc
 joined-first b (l ∷ ls) c t h = ap {B = Bytes} (λ r. b ∷ r) h
@@ -116,10 +132,15 @@ ends-line (b ∷ l) t h = behind (l ++ (LF ∷ t)) (ends-line l t h)
     behind [] e = cc
     behind (c ∷ u) e = e
 
-pub text-ended : (p : List Command) → (eqb (length (text-of p)) 0 || ends-in-LF (text-of p)) ≡ true
-unfolding text-of
-text-ended [] = refl
-text-ended (c ∷ p) = rw (ends-line (spelling c) (text-of p) (text-ended p)) (or-true (eqb (length (spelling c ++ (LF ∷ text-of p))) 0))
+joined-ended : (ls : List Bytes) → Ended (joined ls)
+joined-ended [] = refl
+joined-ended (l ∷ ls) = rw (ends-line l (joined ls) (joined-ended ls)) (or-true (eqb (length (joined (l ∷ ls))) 0))
+
+-- Such a text, short enough, has the faults of its lines alone
+pub lines-fault-only : (σ : Setting) (ls : List Bytes) → length (joined ls) ≤ Limits.most-bytes
+    → text-fault-under σ (joined ls) ≡ program-fault-under σ (text-lines (joined ls))
+unfolding text-fault-under rule-1 rule-2
+lines-fault-only σ ls h = rw (le-leb (length (joined ls)) Limits.most-bytes h, joined-ended ls)
 
 name-short : (i : ℕ) → i < 100 → length (name-of i) ≤ 3
 unfolding name-of
@@ -149,10 +170,10 @@ text-short (c ∷ p) h =
 
 -- The text of an accepted program is read
 pub text-accepted : (p : List Command) → Accepted p → text-fault (text-of p) ≡ none
-unfolding text-fault-under rule-1 rule-2
 text-accepted p h =
     let fits : length (text-of p) ≤ Limits.most-bytes = omega (arith, text-short p (low p h), short p h) in
-    rw (le-leb (length (text-of p)) Limits.most-bytes fits, text-ended p, text-lines-of p) h
+    let lines : text-lines (joined (map spelling p)) ≡ map some p = rw (text-joined p) at (text-lines-of p) in
+    rw (text-joined p) (lines-fault-only Any (map spelling p) (rw (text-joined p) at fits) ∙ rw lines h)
 
 -- What is read is written again, where it is in digits
 
@@ -187,16 +208,21 @@ text-fault-ended : (t : Bytes) → text-fault t ≡ none → Ended t
 unfolding text-fault-under rule-2
 text-fault-ended t h = unless-none _ 2 (length (split-lines t)) (none-first (rule-2 t) _ (none-second (rule-1 t) _ h))
 
+-- A text that is read is its lines, and each of them is read
+pub lines-of-read : (t : Bytes) (p : List Command) → read-text t ≡ done p → (map some p ≡ text-lines t) × (joined (split-lines t) ≡ t)
+lines-of-read t p h =
+    let found : _ = text-read t p h in
+    let lines : map some (present (text-lines t)) ≡ text-lines t = nothing-missing (text-lines t) (text-sound t (found .0)) in
+    (rw (found .1) at lines, whole-lines t (text-fault-ended t (found .0)))
+
 pub text-round-trip : TextRoundTrip
 unfolding read-text-under
-text-round-trip = record { read = read; written = written; digits = text-in-digits }
+text-round-trip = record { read = λ p h. read p h; written = λ t p h d. written t p h d; digits = λ p. text-in-digits p }
   where
     read : (p : List Command) → Accepted p → read-text (text-of p) ≡ done p
     read p h = rw (text-accepted p h, text-lines-of p, present-some p)
 
     written : (t : Bytes) (p : List Command) → read-text t ≡ done p → in-digits t ≡ true → text-of p ≡ t
     written t p h d =
-        let found : _ = text-read t p h in
-        let lines : map some (present (text-lines t)) ≡ text-lines t = nothing-missing (text-lines t) (text-sound t (found .0)) in
-        let whole : joined (split-lines t) ≡ t = whole-lines t (text-fault-ended t (found .0)) in
-        text-of-lines (split-lines t) p (rw (found .1) at lines) (rw whole d) ∙ whole
+        let r : _ = lines-of-read t p h in
+        text-of-lines (split-lines t) p (r .0) (rw (r .1) d) ∙ r .1
