@@ -31,8 +31,11 @@ by-joined [] = refl
 by-joined (l ∷ ls) = ap {B = Bytes} (λ t. line-by l ++ (LF ∷ t)) (by-joined ls)
 
 lines-by : (ls : List Line) → text-lines (text-by ls) ≡ map (λ l. some (l .command)) ls
-lines-by ls = rw (by-joined ls) (lines-read line-by (λ l. l .command) no-LF (λ l. command-of-spelling (l .first) (l .second) (l .command)) ls)
+lines-by ls = rw (by-joined ls) (lines-read line-by (λ l. l .command) no-LF each ls)
   where
+    each : (l : Line) → command (line-by l) ≡ some (l .command)
+    each l = command-of-spelling (l .first) (l .second) (l .command)
+
     no-LF : (l : Line) → NoLF (line-by l)
     no-LF l = spelling-no-LF (l .first) (l .second) (l .command)
 
