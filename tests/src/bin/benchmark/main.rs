@@ -38,6 +38,7 @@ fn speed() -> Vec<Work> {
     vec![
         reading("read 6 lines", 6, MULTIPLY),
         reading("read 512 lines", 512, &largest),
+        reading("read 512 lines in primes, 16,384 bytes", 512, &in_primes()),
         writing("write 512 lines", 512, &largest),
         translating("translate 6 lines", 6, PLAIN, as_text(MULTIPLY)),
         translating("translate 6 lines, tidy", 6, TIDY, as_text(MULTIPLY)),

@@ -11,6 +11,7 @@ use twin::library::{self, Code};
 use twin::machine::Machine;
 use twin::program::{self, read, read_list, Command, Kind, Setting};
 use twin::source::{check, run, State};
+use twin::spellings::primes;
 use twin::translation::{translate, Form};
 use twin::word::{self, spell, Instruction};
 
@@ -23,6 +24,11 @@ pub fn nested(depth: usize, copies: usize) -> Vec<u8> {
     commands.extend(vec![Command::Copy { to: 31, from: 30 }; copies]);
     commands.extend(vec![Command::Close(Kind::Loop, 31); depth]);
     program::write(&commands)
+}
+
+/// A text of as many lines and as many bytes as one may have, in primes.
+pub fn in_primes() -> Vec<u8> {
+    format!("{} <- {}\n", primes(13), primes(12)).repeat(512).into_bytes()
 }
 
 /// The program of a text, and the same as its list.
