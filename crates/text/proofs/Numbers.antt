@@ -1,7 +1,7 @@
 -- Laws of what stands at a place of a text: digits, numerals and names.
 use mathlib.Core.Path.{_≡_, refl, sym, ap, ap₂, _∙_}
 use mathlib.Core.Bool.{Bool, true, false}
-use mathlib.Core.Option.{some}
+use mathlib.Core.Option.{Option, none, some}
 use mathlib.Core.List.{[], _∷_}
 use Prim.Native.Nat.{ℕ, suc, _+_, _-_, _*_, _<_, _≤_, min}
 use native.Mathlib.Nat.{add-zero}
@@ -13,6 +13,7 @@ use lib.ListN.{length, getD, drop, replicate, length-append, length-drop, length
 use lib.Seq.{drop-cons, getD-drop}
 use Rattle.theory.specs.Text.{Bytes, Found, digits, value-after, proper, numeral, prime, primes, digit-first, index, name}
 use Rattle.theory.proofs.Numerals.{value-grows, digits-split, primes-whole}
+use Rattle.text.specs.declared.Number.{Number}
 use Rattle.text.specs.declared.Number.the-variants.{To, No}
 use Rattle.text.specs.declared.Digits.{Digits}
 use Rattle.text.specs.Runs.{leading, run}
@@ -177,11 +178,35 @@ module _ (s : Bytes) (at most : ℕ) where
     unfolding name
     no-name-X n = rw (drop-cons s at 0 h, ne-eqb (getD s at 0) 88 n)
 
-module _ (s : Bytes) (at : ℕ) (h : at < length s) (X : getD s at 0 ≡ 88) where
-  pub name-in-digits : digit-first (drop (at + 1) s) ≡ true → numeral (drop (at + 1) s) ≡ name (drop at s)
-  unfolding name index
-  name-in-digits d = rw (drop-cons s at 0 h, eq-eqb (getD s at 0) 88 X, ← add-one at, d)
+-- A numeral begins with a digit
+no-numeral : (t : Bytes) → digit-first t ≡ false → numeral t ≡ none
+unfolding numeral digits
+no-numeral [] h = refl
+no-numeral (b ∷ t) h = rw h
 
-  pub name-in-primes : digit-first (drop (at + 1) s) ≡ false → some (primes (drop (at + 1) s)) ≡ name (drop at s)
-  unfolding name index
-  name-in-primes d = rw (drop-cons s at 0 h, eq-eqb (getD s at 0) 88 X, ← add-one at, d)
+module _ (s : Bytes) (at most : ℕ) (h : at < length s) (X : getD s at 0 ≡ 88) where
+  abbrev behind : Bytes
+  behind = drop (at + 1) s
+
+  abbrev told : Option (Found ℕ) → Number
+  told = found-in (length s) most
+
+  behind-X : name (drop at s) ≡ index behind
+  unfolding name
+  behind-X = rw (drop-cons s at 0 h, eq-eqb (getD s at 0) 88 X, add-one at)
+
+  pub name-in-digits : {end value : ℕ} → To end value ≡ told (numeral behind) → To end value ≡ told (name (drop at s))
+  unfolding index
+  name-in-digits {end} {value} e = go (digit-first behind) refl
+    where
+      go : (x : Bool) → digit-first behind ≡ x → To end value ≡ told (name (drop at s))
+      go true d = rw (behind-X, d) e
+      go false d = let z : _≡_ {A = ℕ} 0 1 = cc (rw (no-numeral behind d) at e) in absurd (omega arith)
+
+  pub name-improper : No ≡ told (numeral behind) → digit-first behind ≡ true → No ≡ told (name (drop at s))
+  unfolding index
+  name-improper e d = rw (behind-X, d) e
+
+  pub name-in-primes : digit-first behind ≡ false → told (some (primes behind)) ≡ told (name (drop at s))
+  unfolding index
+  name-in-primes d = rw (behind-X, d)

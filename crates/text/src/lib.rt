@@ -154,10 +154,15 @@ pub fn name(text: &[u8], at: usize, most: u64) -> Number
     if text[at] != b'X' {
         return Number::No;
     }
-    if is_digit_at(text, at + 1) {
-        numeral(text, at + 1, most)
-    } else {
-        primes(text, at + 1, most)
+    match numeral(text, at + 1, most) {
+        Number::To { end, value } => Number::To { end, value },
+        Number::No => {
+            if is_digit_at(text, at + 1) {
+                Number::No
+            } else {
+                primes(text, at + 1, most)
+            }
+        }
     }
 }
 
