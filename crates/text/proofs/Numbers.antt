@@ -1,7 +1,7 @@
 -- Laws of what stands at a place of a text: digits, numerals and names.
 use mathlib.Core.Path.{_≡_, refl, sym, ap, ap₂, _∙_}
 use mathlib.Core.Bool.{Bool, true, false}
-use mathlib.Core.Option.{Option, none, some}
+use mathlib.Core.Option.{some}
 use mathlib.Core.List.{[], _∷_}
 use Prim.Native.Nat.{ℕ, suc, _+_, _-_, _*_, _<_, _≤_, min}
 use native.Mathlib.Nat.{add-zero}
@@ -11,9 +11,8 @@ use borrow.Author.Tests.{leb-true, leb-false, lt-leb, le-leb, eq-eqb, ne-eqb}
 use lib.Dec.{eqb, leb}
 use lib.ListN.{length, getD, drop, replicate, length-append, length-drop, length-replicate, drop-of-length-le, List·getD-append}
 use lib.Seq.{drop-cons, getD-drop}
-use Rattle.theory.specs.Text.{Bytes, Found, digits, value-after, proper, numeral, prime, primes, digit-first, index, name}
+use Rattle.theory.specs.Text.{Bytes, Found, is-digit, digits, value-after, proper, numeral, prime, primes, digit-first, index, name}
 use Rattle.theory.proofs.Numerals.{value-grows, digits-split, primes-whole}
-use Rattle.text.specs.declared.Number.{Number}
 use Rattle.text.specs.declared.Number.the-variants.{To, No}
 use Rattle.text.specs.declared.Digits.{Digits}
 use Rattle.text.specs.Runs.{leading, run}
@@ -91,61 +90,72 @@ proper-other [] l n = absurd (omega arith)
 proper-other (b ∷ []) l n = refl
 proper-other (b ∷ c ∷ d) l n = rw (ne-eqb b 48 n)
 
+first-digit : (t : Bytes) → 0 < length (digits t .value) → digit-first t ≡ true
+unfolding digits
+first-digit [] l = absurd (omega arith)
+first-digit (b ∷ t) l = go (is-digit b) refl
+  where
+    go : (x : Bool) → is-digit b ≡ x → is-digit b ≡ true
+    go true e = e
+    go false e = let z : 0 < 0 = rw e at l in absurd (omega arith)
+
+no-first-digit : (t : Bytes) → length (digits t .value) ≡ 0 → digit-first t ≡ false
+unfolding digits
+no-first-digit [] l = refl
+no-first-digit (b ∷ t) l = go (is-digit b) refl
+  where
+    go : (x : Bool) → is-digit b ≡ x → is-digit b ≡ false
+    go true e = let z : suc (length (digits t .value)) ≡ 0 = rw e at l in absurd (omega arith)
+    go false e = e
+
 module _ (s : Bytes) (at most : ℕ) where
-  pub no-numeral-end : length s ≤ at → No ≡ found-in (length s) most (numeral (drop at s))
-  unfolding numeral digits
-  no-numeral-end h = rw (drop-of-length-le s h)
+  abbrev read : Found Bytes
+  read = digits (drop at s)
 
-  module _ (h : at < length s) where
-    abbrev read : Found Bytes
-    read = digits (drop at s)
+  improper : proper (read .value) ≡ false → No ≡ found-in (length s) most (numeral (drop at s))
+  unfolding numeral
+  improper e = rw e
 
-    improper : proper (read .value) ≡ false → No ≡ found-in (length s) most (numeral (drop at s))
-    unfolding numeral
-    improper e = rw e
+  long : length (read .value) + length (read .rest) ≡ length s - at
+  long = sym (length-append (read .value) (read .rest)) ∙ ap length (digits-split (drop at s) .whole) ∙ length-drop at s
 
-    long : length (read .value) + length (read .rest) ≡ length s - at
-    long = sym (length-append (read .value) (read .rest)) ∙ ap length (digits-split (drop at s) .whole) ∙ length-drop at s
+  first : 0 < length (read .value) → getD (read .value) 0 0 ≡ getD s at 0
+  first l =
+      sym (List·getD-append (read .value) (read .rest) 0 0 l)
+      ∙ ap (λ u. getD u 0 0) (digits-split (drop at s) .whole)
+      ∙ getD-drop at s 0 0
+      ∙ rw (add-zero at)
 
-    first : 0 < length (read .value) → getD (read .value) 0 0 ≡ getD s at 0
-    first l =
-        sym (List·getD-append (read .value) (read .rest) 0 0 l)
-        ∙ ap (λ u. getD u 0 0) (digits-split (drop at s) .whole)
-        ∙ getD-drop at s 0 0
-        ∙ rw (add-zero at)
+  module _ {r : Digits} (d : DigitsTo s at most r) where
+    pub digit-missing : r .end ≤ at → digit-first (drop at s) ≡ false
+    digit-missing e = no-first-digit (drop at s) (omega (arith, d .end))
 
-    module _ {r : Digits} (d : DigitsTo s at most r) where
+    pub no-digits : r .end ≤ at → No ≡ found-in (length s) most (numeral (drop at s))
+    no-digits e = improper (proper-none (read .value) (omega (arith, d .end)))
+
+    module _ (some : at < r .end) where
+      pub digit-stands : digit-first (drop at s) ≡ true
+      digit-stands = first-digit (drop at s) (omega (arith, d .end))
+
+      pub digits-within : at < length s
+      digits-within = omega (arith, d .end, long)
+
       properly : proper (read .value) ≡ true → To (r .end) (r .value) ≡ found-in (length s) most (numeral (drop at s))
       unfolding numeral
       properly e = rw e (ap₂ To (omega (arith, long, d .end)) (d .value))
 
-      pub no-digits : r .end ≤ at → No ≡ found-in (length s) most (numeral (drop at s))
-      no-digits e = improper (proper-none (read .value) (omega (arith, d .end)))
-
       pub no-zero : getD s at 0 ≡ 48 → at + 1 < r .end → No ≡ found-in (length s) most (numeral (drop at s))
       no-zero e l = improper (proper-zero (read .value) (omega (arith, d .end)) (first (omega (arith, d .end)) ∙ e))
 
-      module _ (some : at < r .end) where
-        pub numeral-one : r .end ≤ at + 1 → To (r .end) (r .value) ≡ found-in (length s) most (numeral (drop at s))
-        numeral-one l = properly (proper-one (read .value) (omega (arith, d .end)))
+      pub numeral-one : r .end ≤ at + 1 → To (r .end) (r .value) ≡ found-in (length s) most (numeral (drop at s))
+      numeral-one l = properly (proper-one (read .value) (omega (arith, d .end)))
 
-        pub numeral-other : (getD s at 0 ≡ 48 → ⊥) → To (r .end) (r .value) ≡ found-in (length s) most (numeral (drop at s))
-        numeral-other z =
-            let l : 0 < length (read .value) = omega (arith, d .end) in
-            properly (proper-other (read .value) l (λ e. z (sym (first l) ∙ e)))
+      pub numeral-other : (getD s at 0 ≡ 48 → ⊥) → To (r .end) (r .value) ≡ found-in (length s) most (numeral (drop at s))
+      numeral-other z =
+          let l : 0 < length (read .value) = omega (arith, d .end) in
+          properly (proper-other (read .value) l (λ e. z (sym (first l) ∙ e)))
 
 -- Names
-
-module _ (s : Bytes) (at : ℕ) where
-  pub no-digit-end : length s ≤ at → false ≡ digit-first (drop at s)
-  no-digit-end h = rw (drop-of-length-le s h)
-
-  module _ (h : at < length s) where
-    pub no-digit-low : getD s at 0 < 48 → false ≡ digit-first (drop at s)
-    no-digit-low l = rw (drop-cons s at 0 h, lt-leb 48 (getD s at 0) l)
-
-    pub digit-high : 48 ≤ getD s at 0 → leb (getD s at 0) 57 ≡ digit-first (drop at s)
-    digit-high l = rw (drop-cons s at 0 h, le-leb 48 (getD s at 0) l)
 
 primes-run : (t : Bytes) → primes t .value ≡ run prime t
 unfolding primes leading
@@ -178,35 +188,11 @@ module _ (s : Bytes) (at most : ℕ) where
     unfolding name
     no-name-X n = rw (drop-cons s at 0 h, ne-eqb (getD s at 0) 88 n)
 
--- A numeral begins with a digit
-no-numeral : (t : Bytes) → digit-first t ≡ false → numeral t ≡ none
-unfolding numeral digits
-no-numeral [] h = refl
-no-numeral (b ∷ t) h = rw h
+module _ (s : Bytes) (at : ℕ) (h : at < length s) (X : getD s at 0 ≡ 88) where
+  pub name-in-digits : digit-first (drop (at + 1) s) ≡ true → numeral (drop (at + 1) s) ≡ name (drop at s)
+  unfolding name index
+  name-in-digits d = rw (drop-cons s at 0 h, eq-eqb (getD s at 0) 88 X, ← add-one at, d)
 
-module _ (s : Bytes) (at most : ℕ) (h : at < length s) (X : getD s at 0 ≡ 88) where
-  abbrev behind : Bytes
-  behind = drop (at + 1) s
-
-  abbrev told : Option (Found ℕ) → Number
-  told = found-in (length s) most
-
-  behind-X : name (drop at s) ≡ index behind
-  unfolding name
-  behind-X = rw (drop-cons s at 0 h, eq-eqb (getD s at 0) 88 X, add-one at)
-
-  pub name-in-digits : {end value : ℕ} → To end value ≡ told (numeral behind) → To end value ≡ told (name (drop at s))
-  unfolding index
-  name-in-digits {end} {value} e = go (digit-first behind) refl
-    where
-      go : (x : Bool) → digit-first behind ≡ x → To end value ≡ told (name (drop at s))
-      go true d = rw (behind-X, d) e
-      go false d = let z : _≡_ {A = ℕ} 0 1 = cc (rw (no-numeral behind d) at e) in absurd (omega arith)
-
-  pub name-improper : No ≡ told (numeral behind) → digit-first behind ≡ true → No ≡ told (name (drop at s))
-  unfolding index
-  name-improper e d = rw (behind-X, d) e
-
-  pub name-in-primes : digit-first behind ≡ false → told (some (primes behind)) ≡ told (name (drop at s))
-  unfolding index
-  name-in-primes d = rw (behind-X, d)
+  pub name-in-primes : digit-first (drop (at + 1) s) ≡ false → some (primes (drop (at + 1) s)) ≡ name (drop at s)
+  unfolding name index
+  name-in-primes d = rw (drop-cons s at 0 h, eq-eqb (getD s at 0) 88 X, ← add-one at, d)

@@ -2,13 +2,13 @@
 // whether bytes are the symbols of a word.
 ghost use mathlib.Core.Path.{_≡_};
 ghost use mathlib.Core.Option.{some};
-ghost use Prim.Native.Nat.{_+_, _-_, _*_, _≤_, min};
+ghost use Prim.Native.Nat.{_+_, _-_, _*_, _≤_, _<_, min};
 ghost use lib.ListN.{length, drop};
 ghost use Rattle.theory.specs.Basics.{all};
-ghost use Rattle.theory.specs.Text.{LF, numeral as numeral-of, digit-first, primes as primes-of, name as name-of};
+ghost use Rattle.theory.specs.Text.{LF, numeral as numeral-of, primes as primes-of, name as name-of};
 ghost use Rattle.theory.specs.Word.{is-symbol};
 ghost use Rattle.text.specs.Runs.{run, before};
-ghost use Rattle.text.specs.Numbers.{found-in, DigitsTo};
+ghost use Rattle.text.specs.Numbers.{found-in, DigitsTo, AsNumeral};
 
 // A number at a place of a text: where it ends, and its value, kept at a limit where it is above that.
 pub enum Number {
@@ -97,38 +97,31 @@ fn digits_at(text: &[u8], at: usize, most: u64) -> Digits
     Digits { end, value }
 }
 
-// A numeral: digits with no leading zero.
-pub fn numeral(text: &[u8], at: usize, most: u64) -> Number
-    ensures { λ r. ⌜ r ≡ found-in (length (now (text .entry))) most (numeral-of (drop at (now (text .entry)))) ⌝ }
+// The digits at a place, as a numeral: it has no leading zero.
+fn proper(text: &[u8], at: usize, digits: Digits) -> Number
+    requires { ⌜ at < length (now text) ⌝ }
+    ensures { λ r. ⌜ AsNumeral (now (text .entry)) at digits r ⌝ }
 {
-    if text.len() <= at {
-        return Number::No;
-    }
-    let d = digits_at(text, at, most);
-    let end = d.end;
-    if end <= at {
-        return Number::No;
-    }
     if text[at] == b'0' {
-        if at + 1 < end {
+        if at + 1 < digits.end {
             return Number::No;
         }
     }
     Number::To {
-        end,
-        value: d.value,
+        end: digits.end,
+        value: digits.value,
     }
 }
 
-// Whether a digit stands at a place.
-fn is_digit_at(text: &[u8], at: usize) -> bool
-    ensures { λ r. ⌜ r ≡ digit-first (drop at (now (text .entry))) ⌝ }
+// A numeral: digits with no leading zero.
+pub fn numeral(text: &[u8], at: usize, most: u64) -> Number
+    ensures { λ r. ⌜ r ≡ found-in (length (now (text .entry))) most (numeral-of (drop at (now (text .entry)))) ⌝ }
 {
-    if text.len() <= at {
-        return false;
+    let digits = digits_at(text, at, most);
+    if digits.end <= at {
+        return Number::No;
     }
-    let b = text[at];
-    if b < b'0' { false } else { b <= b'9' }
+    proper(text, at, digits)
 }
 
 // An index in primes: how many stand at a place.
@@ -154,16 +147,11 @@ pub fn name(text: &[u8], at: usize, most: u64) -> Number
     if text[at] != b'X' {
         return Number::No;
     }
-    match numeral(text, at + 1, most) {
-        Number::To { end, value } => Number::To { end, value },
-        Number::No => {
-            if is_digit_at(text, at + 1) {
-                Number::No
-            } else {
-                primes(text, at + 1, most)
-            }
-        }
+    let digits = digits_at(text, at + 1, most);
+    if digits.end <= at + 1 {
+        return primes(text, at + 1, most);
     }
+    proper(text, at + 1, digits)
 }
 
 // How far two bytes are apart.

@@ -1,8 +1,11 @@
 -- `name` meets its contract: an index stands behind the X, in digits or in primes.
-use mathlib.Core.Path.{sym, _∙_}
+use mathlib.Core.Path.{ap, _∙_}
+use Prim.Native.Nat.{_+_}
 use native.Mathlib.Omega.{arith}
 use borrow.Author.Needs.{needs}
-use Rattle.text.proofs.Numbers.{no-name-end, no-name-X, name-in-digits, name-improper, name-in-primes}
+use lib.ListN.{length}
+use Rattle.text.specs.Numbers.{found-in}
+use Rattle.text.proofs.Numbers.{no-name-end, no-name-X, digit-missing, digit-stands, digits-within, name-in-digits, name-in-primes}
 use Rattle.text.proofs.name.Statement.{statement}
 use Rattle.text.proofs.name.Tie as tie
 
@@ -17,23 +20,14 @@ returns-2 : tie.Need-returns-2
 returns-2 c = let a = c .before .before .before .before .args in
     no-name-X (a .text .now) (a .at) (a .most) (omega arith) (c .if2 .taken)
 
-add-numeral : tie.Need-add-numeral
-add-numeral c = search needs
+add-digits-at : tie.Need-add-digits-at
+add-digits-at c = search needs
 
-numeral-requires : tie.Need-numeral-requires
-numeral-requires c κs = search needs
+digits-at-requires : tie.Need-digits-at-requires
+digits-at-requires c κs = search needs
 
-enum-known-end : tie.Need-enum-known-end
-enum-known-end c = search needs
-
-enum-told : tie.Need-enum-told
-enum-told c = search needs
-
-add-is-digit-at : tie.Need-add-is-digit-at
-add-is-digit-at c = search needs
-
-is-digit-at-requires : tie.Need-is-digit-at-requires
-is-digit-at-requires c κs = search needs
+add-if3 : tie.Need-add-if3
+add-if3 c = search needs
 
 add-primes : tie.Need-add-primes
 add-primes c = search needs
@@ -43,25 +37,28 @@ primes-requires c κs = search needs
 
 returns-3 : tie.Need-returns-3
 returns-3 c =
-    let n = c .before .before .before in
-    let a = n .before .before .before .before .before .args in
-    name-in-digits (a .text .now) (a .at) (a .most) (omega arith) (n .before .if2 .left) (sym (c .before .end .given .1) ∙ n .numeral .ensures)
+    let d = c .before .before .before in
+    let a = d .before .before .before .before .before .args in
+    let none = digit-missing (a .text .now) (a .at + 1) (a .most) (d .digits-at .ensures) (c .before .if3 .taken) in
+    let same = name-in-primes (a .text .now) (a .at) (omega arith) (d .before .if2 .left) none in
+    c .primes .ensures ∙ ap (found-in (length (a .text .now)) (a .most)) same
+
+add-proper : tie.Need-add-proper
+add-proper c = search needs
+
+proper-requires : tie.Need-proper-requires
+proper-requires c κs =
+    let d = c .before .before in
+    let a = d .before .before .before .before .before .args in
+    digits-within (a .text .now) (a .at + 1) (a .most) (d .digits-at .ensures) (omega arith)
 
 returns-4 : tie.Need-returns-4
 returns-4 c =
-    let none = c .before .before in
-    let n = none .before .before in
-    let a = n .before .before .before .before .before .args in
-    name-improper (a .text .now) (a .at) (a .most) (omega arith) (n .before .if2 .left) (sym (none .enum-told .given .1) ∙ n .numeral .ensures)
-    (sym (c .before .is-digit-at .ensures) ∙ c .if3 .taken)
-
-returns-5 : tie.Need-returns-5
-returns-5 c =
-    let n = c .before .before .before .before .before in
-    let a = n .before .before .before .before .before .args in
-    c .primes .ensures
-    ∙ name-in-primes (a .text .now) (a .at) (a .most) (omega arith) (n .before .if2 .left)
-    (sym (c .before .before .is-digit-at .ensures) ∙ c .before .if3 .left)
+    let d = c .before .before .before in
+    let a = d .before .before .before .before .before .args in
+    let stands = digit-stands (a .text .now) (a .at + 1) (a .most) (d .digits-at .ensures) (omega arith) in
+    let same = name-in-digits (a .text .now) (a .at) (omega arith) (d .before .if2 .left) stands in
+    c .proper .ensures (a .most) (d .digits-at .ensures) (omega arith) ∙ ap (found-in (length (a .text .now)) (a .most)) same
 
 pub name-spec : {M : Type 1} → statement M
 name-spec =
@@ -70,14 +67,12 @@ name-spec =
     returns
     shared-slice-read-if2
     returns-2
-    add-numeral
-    numeral-requires
-    enum-known-end
-    enum-told
-    add-is-digit-at
-    is-digit-at-requires
+    add-digits-at
+    digits-at-requires
+    add-if3
     add-primes
     primes-requires
     returns-3
-    returns-4
-    returns-5)
+    add-proper
+    proper-requires
+    returns-4)
