@@ -20,7 +20,7 @@ use Rattle.text.specs.declared.Number.{Number}
 use Rattle.text.specs.declared.Number.the-variants.{To, No}
 use Rattle.command.specs.declared.Numbers.{Numbers}
 use Rattle.command.specs.Lines.{limited, is-some, no-numbers, numbers-as, of-kind, numbered, from-name, most, alike}
-use Rattle.command.specs.Lines.{clears, increments, copies, assignment}
+use Rattle.command.specs.Lines.{clears, increments, copies, assignment, loops, endloops, whiles, endwhiles, pair}
 
 -- What follows a word
 
@@ -291,56 +291,47 @@ mapped-7 : (o : Option ℕ) → of-kind 7 o ≡ numbered (Option·map (closes wh
 mapped-7 none = refl
 mapped-7 (some i) = refl
 
-abbrev loops : Bytes → Option Command
-loops s = Option·map (opens loop) (around (bytes "loop ") (bytes "") s)
-
-abbrev endloops : Bytes → Option Command
-endloops s = Option·map (closes loop) (around (bytes "endloop ") (bytes "") s)
-
-abbrev whiles : Bytes → Option Command
-whiles s = Option·map (opens while) (around (bytes "while ") (bytes " != 0") s)
-
-abbrev endwhiles : Bytes → Option Command
-endwhiles s = Option·map (closes while) (around (bytes "endwhile ") (bytes " != 0") s)
-
-spellings : (s : Bytes) → command s ≡ or-else (assignment s) (or-else (loops s) (or-else (endloops s) (or-else (whiles s) (endwhiles s))))
-unfolding command assignment
+-- The first three, and the other four
+spellings : (s : Bytes) → command s ≡ or-else (assignment s) (pair s)
+unfolding command assignment pair
 spellings s = one-by-one (clears s) (increments s) (copies s) (or-else (loops s) (or-else (endloops s) (or-else (whiles s) (endwhiles s))))
 
 module _ (s : Bytes) {a : Numbers} (ea : a ≡ numbered (assignment s)) where
-  pub numbers-a : (a .kind ≡ 0 → ⊥) → a ≡ numbered (command s)
-  numbers-a n = rw (spellings s) (numbers-first (assignment s) _ ea n)
+  pub numbers-assigned : (a .kind ≡ 0 → ⊥) → a ≡ numbered (command s)
+  numbers-assigned n = rw (spellings s) (numbers-first (assignment s) _ ea n)
 
-  module _ (za : a .kind ≡ 0) {b : Numbers} (eb : b ≡ of-kind 4 (around (bytes "loop ") (bytes "") s)) where
-    past-a : numbered (command s) ≡ numbered (or-else (loops s) (or-else (endloops s) (or-else (whiles s) (endwhiles s))))
-    past-a = rw (spellings s) (numbers-next (assignment s) _ ea za)
+  pub numbers-paired : a .kind ≡ 0 → {b : Numbers} → b ≡ numbered (pair s) → b ≡ numbered (command s)
+  numbers-paired z e = e ∙ sym (ap numbered (spellings s) ∙ numbers-next (assignment s) _ ea z)
 
-    is-b : b ≡ numbered (loops s)
-    is-b = eb ∙ mapped-4 (around (bytes "loop ") (bytes "") s)
+module _ (s : Bytes) {b : Numbers} (eb : b ≡ of-kind 4 (around (bytes "loop ") (bytes "") s)) where
+  is-b : b ≡ numbered (loops s)
+  is-b = eb ∙ mapped-4 (around (bytes "loop ") (bytes "") s)
 
-    pub numbers-b : (b .kind ≡ 0 → ⊥) → b ≡ numbered (command s)
-    numbers-b n = numbers-first (loops s) _ is-b n ∙ sym past-a
+  pub numbers-b : (b .kind ≡ 0 → ⊥) → b ≡ numbered (pair s)
+  unfolding pair
+  numbers-b n = numbers-first (loops s) _ is-b n
 
-    module _ (zb : b .kind ≡ 0) {c : Numbers} (ec : c ≡ of-kind 5 (around (bytes "endloop ") (bytes "") s)) where
-      past-b : numbered (command s) ≡ numbered (or-else (endloops s) (or-else (whiles s) (endwhiles s)))
-      past-b = past-a ∙ numbers-next (loops s) _ is-b zb
+  module _ (zb : b .kind ≡ 0) {c : Numbers} (ec : c ≡ of-kind 5 (around (bytes "endloop ") (bytes "") s)) where
+    past-b : numbered (pair s) ≡ numbered (or-else (endloops s) (or-else (whiles s) (endwhiles s)))
+    unfolding pair
+    past-b = numbers-next (loops s) _ is-b zb
 
-      is-c : c ≡ numbered (endloops s)
-      is-c = ec ∙ mapped-5 (around (bytes "endloop ") (bytes "") s)
+    is-c : c ≡ numbered (endloops s)
+    is-c = ec ∙ mapped-5 (around (bytes "endloop ") (bytes "") s)
 
-      pub numbers-c : (c .kind ≡ 0 → ⊥) → c ≡ numbered (command s)
-      numbers-c n = numbers-first (endloops s) _ is-c n ∙ sym past-b
+    pub numbers-c : (c .kind ≡ 0 → ⊥) → c ≡ numbered (pair s)
+    numbers-c n = numbers-first (endloops s) _ is-c n ∙ sym past-b
 
-      module _ (zc : c .kind ≡ 0) {d : Numbers} (ed : d ≡ of-kind 6 (around (bytes "while ") (bytes " != 0") s)) where
-        past-c : numbered (command s) ≡ numbered (or-else (whiles s) (endwhiles s))
-        past-c = past-b ∙ numbers-next (endloops s) _ is-c zc
+    module _ (zc : c .kind ≡ 0) {d : Numbers} (ed : d ≡ of-kind 6 (around (bytes "while ") (bytes " != 0") s)) where
+      past-c : numbered (pair s) ≡ numbered (or-else (whiles s) (endwhiles s))
+      past-c = past-b ∙ numbers-next (endloops s) _ is-c zc
 
-        is-d : d ≡ numbered (whiles s)
-        is-d = ed ∙ mapped-6 (around (bytes "while ") (bytes " != 0") s)
+      is-d : d ≡ numbered (whiles s)
+      is-d = ed ∙ mapped-6 (around (bytes "while ") (bytes " != 0") s)
 
-        pub numbers-d : (d .kind ≡ 0 → ⊥) → d ≡ numbered (command s)
-        numbers-d n = numbers-first (whiles s) _ is-d n ∙ sym past-c
+      pub numbers-d : (d .kind ≡ 0 → ⊥) → d ≡ numbered (pair s)
+      numbers-d n = numbers-first (whiles s) _ is-d n ∙ sym past-c
 
-        pub numbers-e : d .kind ≡ 0 → {e : Numbers} → e ≡ of-kind 7 (around (bytes "endwhile ") (bytes " != 0") s)
-            → e ≡ numbered (command s)
-        numbers-e zd ee = ee ∙ mapped-7 (around (bytes "endwhile ") (bytes " != 0") s) ∙ sym (past-c ∙ numbers-next (whiles s) _ is-d zd)
+      pub numbers-e : d .kind ≡ 0 → {e : Numbers} → e ≡ of-kind 7 (around (bytes "endwhile ") (bytes " != 0") s)
+          → e ≡ numbered (pair s)
+      numbers-e zd ee = ee ∙ mapped-7 (around (bytes "endwhile ") (bytes " != 0") s) ∙ sym (past-c ∙ numbers-next (whiles s) _ is-d zd)

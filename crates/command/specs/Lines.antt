@@ -71,3 +71,19 @@ copies t = Option·map (λ ij. plain (copy (ij .0) (ij .1))) (assigns (bytes "")
 
 unfoldable pub assignment : Bytes → Option Command
 assignment t = or-else (clears t) (or-else (increments t) (copies t))
+
+-- The other four
+abbrev pub loops : Bytes → Option Command
+loops t = Option·map (opens loop) (around (bytes "loop ") (bytes "") t)
+
+abbrev pub endloops : Bytes → Option Command
+endloops t = Option·map (closes loop) (around (bytes "endloop ") (bytes "") t)
+
+abbrev pub whiles : Bytes → Option Command
+whiles t = Option·map (opens while) (around (bytes "while ") (bytes " != 0") t)
+
+abbrev pub endwhiles : Bytes → Option Command
+endwhiles t = Option·map (closes while) (around (bytes "endwhile ") (bytes " != 0") t)
+
+unfoldable pub pair : Bytes → Option Command
+pair t = or-else (loops t) (or-else (endloops t) (or-else (whiles t) (endwhiles t)))

@@ -15,7 +15,7 @@ ghost use lib.ListN.{length, drop};
 ghost use Rattle.theory.specs.Text.{following, same};
 ghost use Rattle.theory.specs.ProgramText.{around, command};
 ghost use Rattle.command.specs.Lines.{limited, is-some, numbers-as, of-kind, numbered, alike};
-ghost use Rattle.command.specs.Lines.{assignment as assignment-of, Assigned};
+ghost use Rattle.command.specs.Lines.{assignment as assignment-of, pair as pair-of, Assigned};
 
 // Numbers of names up to here are told apart. No line has as many primes, so what is larger is in digits.
 const MOST: u64 = 18446744073709551615;
@@ -152,14 +152,10 @@ fn assignment(s: &[u8]) -> Numbers
     NO_COMMAND
 }
 
-// The numbers of a line, by the first of the spellings that it has.
-pub fn numbers_of(s: &[u8]) -> Numbers
-    ensures { λ r. ⌜ r ≡ numbered (command (now (s .entry))) ⌝ }
+// A line that begins with no name, by the first of the other spellings that it has.
+fn pair(s: &[u8]) -> Numbers
+    ensures { λ r. ⌜ r ≡ numbered (pair-of (now (s .entry))) ⌝ }
 {
-    let a = assignment(s);
-    if a.kind != 0 {
-        return a;
-    }
     let b = pair_line(s, LOOP, b"loop ", b"");
     if b.kind != 0 {
         return b;
@@ -173,4 +169,15 @@ pub fn numbers_of(s: &[u8]) -> Numbers
         return d;
     }
     pair_line(s, ENDWHILE, b"endwhile ", b" != 0")
+}
+
+// The numbers of a line, by the first of the spellings that it has.
+pub fn numbers_of(s: &[u8]) -> Numbers
+    ensures { λ r. ⌜ r ≡ numbered (command (now (s .entry))) ⌝ }
+{
+    let a = assignment(s);
+    if a.kind != 0 {
+        return a;
+    }
+    pair(s)
 }
