@@ -42,7 +42,7 @@ abbrev pub variables : List Command → ℕ
 variables [] = 0
 variables (c ∷ p) = max (above (indices c)) (variables p)
 
--- "The spellings, single blanks only", by the notation of the first name and of the second: "One line … may spell their variable both ways"
+-- "The spellings, single blanks only", by the notation of each name (document 02): "One line … may spell their variable both ways"
 abbrev pub spelling-by : Notation → Notation → Command → Bytes
 spelling-by v w (plain (clear i)) = name-by v i ++ bytes " <- 0"
 spelling-by v w (plain (increment i)) = name-by v i ++ (bytes " <- " ++ (name-by w i ++ bytes " + 1"))

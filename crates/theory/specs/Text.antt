@@ -1,4 +1,4 @@
--- Bytes, numerals and names. "Base 10 throughout, and all text is ASCII. LF is byte 10."
+-- Bytes, numerals and names, in primes too (document 02, request 3). "Base 10 throughout, and all text is ASCII. LF is byte 10."
 use mathlib.Core.Bool.{Bool, true, false, cond, not, _&&_, _||_}
 use mathlib.Core.Option.{Option, none, some}
 use mathlib.Core.List.{List, [], _∷_, _++_}

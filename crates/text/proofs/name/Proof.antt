@@ -39,7 +39,7 @@ returns-3 : tie.Need-returns-3
 returns-3 c =
     let d = c .before .before .before in
     let a = d .before .before .before .before .before .args in
-    let none = digit-missing (a .text .now) (a .at + 1) (a .most) (d .digits-at .ensures) (c .before .if3 .taken) in
+    let none = digit-missing (a .text .now) (a .at + 1) (a .most) (d .digits-at .ensures) (omega arith) in
     let same = name-in-primes (a .text .now) (a .at) (omega arith) (d .before .if2 .left) none in
     c .primes .ensures ∙ ap (found-in (length (a .text .now)) (a .most)) same
 

@@ -10,7 +10,7 @@ digits-at-requires c κs = search needs
 
 returns : tie.Need-returns
 returns c = let a = c .before .before .before .before .args in
-    no-digits (a .text .now) (a .at) (a .most) (c .before .before .digits-at .ensures) (c .if1 .taken)
+    no-digits (a .text .now) (a .at) (a .most) (c .before .before .digits-at .ensures) (omega arith)
 
 proper-requires : tie.Need-proper-requires
 proper-requires c κs = let a = c .before .before .before .before .args in

@@ -19,7 +19,7 @@ ends-requires c κs =
     omega (arith, length-take-le (a .last) (a .s .now) (omega arith))
 
 returns : tie.Need-returns
-returns c = rw (lt-ltb (c .before .before .args .value) most (c .if1 .taken))
+returns c = rw (lt-ltb (c .before .before .args .value) most (omega arith))
 
 returns-2 : tie.Need-returns-2
 returns-2 c = rw (le-ltb (c .before .before .before .before .before .args .value) most (omega arith)) (c .ends .ensures)
