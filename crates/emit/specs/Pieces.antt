@@ -4,11 +4,10 @@ use mathlib.Core.List.{List, [], _∷_, _++_}
 use Prim.Native.Nat.{ℕ, _+_}
 use lib.Dec.{eqb}
 use Rattle.theory.specs.ProgramText.{Plain, clear, increment, copy, Kind, loop, while}
-use Rattle.theory.specs.Text.{Bytes}
-use Rattle.theory.specs.Word.{Instruction, append, forward, cases, one, Entry, table-of, spell-entries, bytes-of}
+use Rattle.theory.specs.Word.{Instruction, append, forward, cases, one, table-of}
 use Rattle.theory.specs.Translation.{sharing, returning, before-body, after-body}
 use Rattle.command.specs.declared.Numbers.{Numbers}
-use Rattle.output.specs.Puts.{Put}
+use Rattle.instruction.specs.Instructions.{Spelt}
 
 -- The command of a plain line, and the kind of pair that a line opens
 abbrev pub plain-of : Numbers → Plain
@@ -35,14 +34,6 @@ front K d l m = before-body K d (kind-opened (l .kind)) (l .index) m
 abbrev pub back : ℕ → ℕ → List Instruction
 back n m = after-body (kind-opened n) m ∷ []
 
--- The text of some entries: each its operand times 1, and then its kind times #
-abbrev pub text : List Entry → Bytes
-text t = bytes-of (spell-entries t)
-
--- It was put at a place, over `before`, which is then `after`, up to another
-pub record Spelt (t : List Entry) (place : ℕ) (before after : List ℕ) (end : ℕ) : Type 0 where
-  pub put : Put (text t) place before after end
-
--- So were some instructions
+-- Some instructions were put at a place, over `before`, which is then `after`, up to another place
 abbrev pub Written : List Instruction → ℕ → List ℕ → List ℕ → ℕ → Type 0
 Written w place before after end = Spelt (table-of w) place before after end

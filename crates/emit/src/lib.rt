@@ -1,28 +1,16 @@
-// The instructions of a plain line and of the two ends of a pair (document 01, "Translation"), each written at a place of the output.
-// Indices, variables and depths are bytes, and the instructions of a body a u16, so that no sum of them wraps.
-ghost use mathlib.Core.List.{[], _∷_};
+// The instructions of a plain line and of the two ends of a pair (document 01, "Translation"), each put at a place of the output. What a
+// function returns is the place after its last. Indices, variables and depths are bytes, and the instructions of a body a u16, so that no
+// sum of them wraps.
 ghost use mathlib.Core.Path.{_≡_};
 ghost use Prim.Native.Nat.{_+_};
 ghost use Rattle.theory.specs.Translation as T;
-ghost use Rattle.emit.specs.Pieces.{plain-of, looping, testing, across, front, back, Spelt, Written};
+ghost use Rattle.emit.specs.Pieces.{plain-of, looping, testing, across, front, back, Written};
 use command::Numbers;
-use output::put_runs;
-
-// The number of # of an instruction, by its kind.
-pub const APPEND: usize = 1;
-
-pub const FORWARD: usize = 3;
-
-pub const BACKWARD: usize = 4;
-
-pub const CASES: usize = 5;
-
-// One instruction: `operand` times 1, and then `kind` times #. What it returns, as the functions below do, is the place after it.
-pub fn put_instruction(out: &mut [u8], place: usize, operand: usize, kind: usize) -> usize
-    ensures { λ r. ⌜ Spelt (record { kind = kind; operand = operand } ∷ []) place (now (out .entry)) (now (out .exit)) r ⌝ }
-{
-    put_runs(out, place, operand, b'1', kind, b'#')
-}
+use instruction::APPEND;
+use instruction::BACKWARD;
+use instruction::CASES;
+use instruction::FORWARD;
+use instruction::put_instruction;
 
 // C a, F2, B2
 pub fn clearing(out: &mut [u8], place: usize, a: usize) -> usize

@@ -17,8 +17,8 @@ use Rattle.theory.specs.Word.{Symbol, bytes-of}
 use Rattle.theory.specs.Machines.{ones, laid, store-of, lengths-of}
 use Rattle.theory.proofs.GoodMemory.{length-laid, length-cells, getD-cells}
 use Rattle.memory.specs.Held.{Held}
-use Rattle.output.specs.Puts.{Put}
-use Rattle.output.proofs.Puts.{sets-front}
+use Rattle.output.specs.Puts.{starting}
+use Rattle.output.proofs.Puts.{starting-whole}
 use Rattle.memory.specs.Fresh.{fresh-registers}
 use Rattle.memory.proofs.Places.{place-ends}
 
@@ -40,9 +40,9 @@ one-bytes : (n : ℕ) → bytes-of (ones n) ≡ replicate n 49
 one-bytes zero = refl
 one-bytes (suc n) = ap {B = Bytes} (λ r. 49 ∷ r) (one-bytes n)
 
-pub runs-laid : {l m : Bytes} {j : ℕ} (n : ℕ) → n ≤ length l → Put (replicate n 49 ++ replicate (length l - n) 0) 0 l m j
+pub runs-laid : (l : Bytes) {m : Bytes} (n : ℕ) → n ≤ length l → m ≡ starting (replicate n 49 ++ replicate (length l - n) 0) l
     → m ≡ laid (length l) (ones n)
-runs-laid {l} {m} n h put =
+runs-laid l n h written =
     let front : Bytes = replicate n 49 in
     let back : Bytes = replicate (length l - n) 0 in
     let w : Bytes = front ++ back in
@@ -50,7 +50,7 @@ runs-laid {l} {m} n h put =
     let back-size : length back ≡ length l - n = length-replicate {A = ℕ} (length l - n) 0 in
     let size : length w ≡ length l = length-append front back ∙ omega arith in
     let rest : drop (length w) l ≡ [] = drop-of-length-le l {i = length w} (omega arith) in
-    put .wrote ∙ sets-front l w (omega arith) ∙ rw (rest, append-nil w, one-bytes n, length-ones n)
+    written ∙ starting-whole w l (omega arith) ∙ rw (rest, append-nil w, one-bytes n, length-ones n)
 
 -- One place more of a store
 pub store-next : (capacity i j k : ℕ) (f : ℕ → List Symbol) (store part : Bytes) → j ≡ i * capacity + capacity → j ≤ length store

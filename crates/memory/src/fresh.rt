@@ -10,7 +10,7 @@ ghost use Rattle.memory.specs.Calls.{memory};
 ghost use Rattle.memory.specs.Fresh.{fresh-registers, can-hold};
 use crate::answers::Machine;
 use crate::checks::is_sized;
-use output::put_runs;
+use output::write_runs;
 
 fn wide(x: u32) -> usize
     ensures { λ r. ⌜ r ≡ x ⌝ }
@@ -51,7 +51,7 @@ fn lay(part: &mut [u8], n: usize)
     ensures { λ _. ⌜ now (part .exit) ≡ laid (length (now (part .entry))) (ones n) ⌝ }
 {
     let rest = part.len() - n;
-    put_runs(part, 0, n, b'1', rest, 0);
+    write_runs(part, n, b'1', rest, 0);
 }
 
 // How many ones register i + 1 holds.

@@ -1,19 +1,20 @@
--- Laws of bytes put at a place: one put after the other, what has no place, and where there is room for all.
+-- Laws of bytes put at a place: one put after the other, what has no place, where there is room for all, and what a part then is.
 use mathlib.Core.Path.{_≡_, refl, sym, ap, _∙_}
 use mathlib.Core.List.{[], _∷_, _++_, append-nil}
 use mathlib.Core.Bool.{Bool, true, false}
 use Prim.Native.Nat.{ℕ, suc, _+_, _-_, _<_, _≤_, min}
-use native.Mathlib.Nat.{zero-add}
+use native.Mathlib.Nat.{zero-add, add-suc, add-zero}
 use native.Mathlib.Numerals.{add-one}
 use native.Mathlib.Omega.{arith}
 use lib.Dec.{ltb}
 use borrow.Author.Tests.{ltb-true, ltb-false}
 use lib.ListN.{length, getD, take, drop, set, replicate, length-append, length-take, length-drop, length-replicate}
-use lib.ListN.{replicate-append-replicate, take-append-drop}
-use lib.Seq.{sets, sets-eq, length-sets, set-out, take-suc, length-take-le}
+use lib.ListN.{replicate-append-replicate, take-append-drop, drop-of-length-le}
+use lib.Seq.{sets, sets-eq, length-sets, set-out, take-suc, length-take-le, take-length, take-all, take-set-le, drop-set-add}
+use borrow.Rule.Slice.PartMut.{putMid}
 use Rattle.theory.specs.Text.{Bytes}
 use Rattle.theory.proofs.Writes.{sets-append}
-use Rattle.output.specs.Puts.{most, place, Put}
+use Rattle.output.specs.Puts.{most, place, Put, starting}
 
 -- Past the end nothing is written
 sets-out : (u l : Bytes) (i : ℕ) → length l ≤ i → sets l i u ≡ l
@@ -65,7 +66,7 @@ module _ {l m : Bytes} {i k j : ℕ} where
       all-placed (take k w) (drop k w) l i (λ some. omega (arith, length-take k w, length-drop k w)) in
       record { next = g; wrote = f ∙ whole ∙ rw take-append-drop; sized = h }
 
-  pub run-placed : (n b : ℕ) → m ≡ sets l i (replicate k b) → k ≡ min n (length l - i) → length l ≤ most → j ≡ place (i + n)
+  run-placed : (n b : ℕ) → m ≡ sets l i (replicate k b) → k ≡ min n (length l - i) → length l ≤ most → j ≡ place (i + n)
       → Put (replicate n b) i l m j
   run-placed n b f e h g =
       let all : k + (n - k) ≡ n = omega arith in
@@ -86,3 +87,63 @@ sets-more l m w at i h e =
 -- At the front, where there is room: the bytes, and what was after them
 pub sets-front : (l w : Bytes) → length w ≤ length l → sets l 0 w ≡ w ++ drop (length w) l
 sets-front l w h = sets-eq w l 0 (omega arith) ∙ rw (zero-add (length w))
+
+-- What is written behind some bytes leaves these as they were
+sets-behind : (u l : Bytes) (i j : ℕ) → sets l (i + j) u ≡ take i l ++ sets (drop i l) j u
+sets-behind [] l i j = sym (take-append-drop i l)
+sets-behind (b ∷ u) l i j =
+    rw (← add-suc i j, sets-behind u (set l (i + j) b) i (suc j), take-set-le i l (i + j) b (omega arith), drop-set-add i l j b)
+
+-- Bytes put at the first place of a part
+pub sets-starting : (u l : Bytes) → sets l 0 u ≡ starting u l
+unfolding starting
+sets-starting [] l = sym (take-length l)
+sets-starting (b ∷ u) [] = sets-out u [] 1 (omega arith)
+sets-starting (b ∷ u) (c ∷ l) = sets-behind u (b ∷ l) 1 0 ∙ ap {B = Bytes} (λ r. b ∷ r) (sets-starting u l)
+
+-- Where it has room for all of them
+pub starting-whole : (u l : Bytes) → length u ≤ length l → starting u l ≡ u ++ drop (length u) l
+starting-whole u l h = sym (sets-starting u l) ∙ sets-front l u h
+
+module _ {u l : Bytes} {i j : ℕ} (h : length l ≤ most) (e : j ≡ place (i + length u)) where
+  -- Bytes written into the part that begins at a place, which goes to the end
+  pub put-part : {part : Bytes} (k : ℕ) → length l - i ≤ k → part ≡ starting u (take k (drop i l)) → Put u i l (putMid i k l part) j
+  put-part {part} k to-the-end f =
+      let rest : length (drop i l) ≤ k = omega (arith, length-drop i l) in
+      let written : part ≡ sets (drop i l) 0 u = rw (take-all k (drop i l) rest, ← sets-starting u (drop i l)) at f in
+      let whole : sets l i u ≡ take i l ++ sets (drop i l) 0 u = rw (add-zero i) at (sets-behind u l i 0) in
+      record {
+        next = e;
+        wrote = rw (drop-of-length-le (drop i l) {i = k} rest, append-nil part, written) (sym whole);
+        sized = h;
+      }
+
+  -- At a place past the end nothing is written
+  pub put-past : length l ≤ i → Put u i l l j
+  put-past past = record { next = e; wrote = sym (sets-out u l i past); sized = h }
+
+-- Two runs, as much of each as has a place
+module _ (l : Bytes) {m n : Bytes} (h : length l ≤ most) (count b more o : ℕ) where
+  pub runs-starting : (k j : ℕ) → m ≡ sets l 0 (replicate k b) → n ≡ sets m k (replicate j o) → k ≡ min count (length l)
+      → j ≡ min more (length l - k) → n ≡ starting (replicate count b ++ replicate more o) l
+  runs-starting k j e f first second = go (ltb (length l) count) refl
+    where
+      one : Put (replicate count b) 0 l m (place (0 + count))
+      one = run-placed {k = k} count b e (omega arith) h refl
+
+      both : n ≡ sets m (place (0 + count)) (replicate j o) → n ≡ starting (replicate count b ++ replicate more o) l
+      both g =
+          let size : length m ≡ length l = put-length one in
+          let two : Put (replicate more o) (place (0 + count)) m n (place (place (0 + count) + more))
+          = run-placed {k = j} more o g (omega arith) (omega arith) refl in
+          put-then one two .wrote ∙ sets-starting (replicate count b ++ replicate more o) l
+
+      go : (t : Bool) → ltb (length l) count ≡ t → n ≡ starting (replicate count b ++ replicate more o) l
+      go true t =
+          let past : length l < count = ltb-true (length l) count t in
+          let none : j ≡ 0 = omega arith in
+          both (f ∙ rw none)
+      go false t =
+          let inside : count ≤ length l = ltb-false (length l) count t in
+          let here : k ≡ place (0 + count) = omega arith in
+          both (rw here at f)

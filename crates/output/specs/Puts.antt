@@ -1,7 +1,9 @@
--- Bytes put into a lent output from a place on. A byte that has no place in the output is counted and not written.
+-- Bytes put into a lent output from a place on, or written into the part of it that begins there. A byte that has no place in the output is
+-- not written, but counted.
 use mathlib.Core.Path.{_≡_}
+use mathlib.Core.List.{_++_}
 use Prim.Native.Nat.{ℕ, _+_, _≤_, min}
-use lib.ListN.{length}
+use lib.ListN.{length, take, drop}
 use lib.Seq.{sets}
 use Rattle.theory.specs.Text.{Bytes}
 
@@ -17,3 +19,8 @@ pub record Put (u : Bytes) (i : ℕ) (l m : Bytes) (j : ℕ) : Type 0 where
   pub next : j ≡ place (i + length u)
   pub wrote : m ≡ sets l i u
   pub sized : length l ≤ most
+
+-- The part of an output that begins at a place, once the bytes u were written into it: it starts with them, all that it has room for, and
+-- is otherwise as it was
+unfoldable pub starting : Bytes → Bytes → Bytes
+starting u part = take (length part) (u ++ drop (length u) part)

@@ -1,16 +1,17 @@
-// Bytes put into an output from a place on, and the place after them. A byte that has no place in the output is counted and not written.
+// Bytes put into an output from a place on, and the place after them; or written into the part of it that begins there. A byte that has no
+// place in the output is not written, but counted.
 ghost use mathlib.Core.Path.{_≡_};
 ghost use mathlib.Core.List.{[], _∷_, _++_};
-ghost use Prim.Native.Nat.{_+_, _-_, _%_, _≤_};
+ghost use Prim.Native.Nat.{_+_, _-_, _%_, _≤_, min};
 ghost use lib.ListN.{length, replicate, take};
 ghost use lib.Seq.{sets};
 ghost use Rattle.theory.specs.Text.{decimal};
-ghost use Rattle.output.specs.Puts.{place, Put};
+ghost use Rattle.output.specs.Puts.{place, Put, starting};
 
 const MOST: usize = 18446744073709551615;
 
 // The place so many bytes on.
-fn onward(at: usize, n: usize) -> usize
+pub fn onward(at: usize, n: usize) -> usize
     ensures { λ r. ⌜ r ≡ place (at + n) ⌝ }
 {
     if n <= MOST - at { at + n } else { MOST }
@@ -60,34 +61,38 @@ fn fill(out: &mut [u8], at: usize, n: usize, byte: u8)
     }
 }
 
-// One byte, so many times.
-pub fn put_run(out: &mut [u8], at: usize, count: usize, byte: u8) -> usize
-    ensures { λ r. ⌜ Put (replicate count byte) at (now (out .entry)) (now (out .exit)) r ⌝ }
+// The smaller of two numbers.
+fn least(a: usize, b: usize) -> usize
+    ensures { λ r. ⌜ r ≡ min a b ⌝ }
 {
-    let room = left(out.len(), at);
-    if count <= room {
-        fill(&mut *out, at, count, byte);
-        return at + count;
-    }
-    fill(&mut *out, at, room, byte);
-    onward(at, count)
+    if a < b { a } else { b }
 }
 
-// Two runs, one after the other: where all of both has a place, by one test.
-pub fn put_runs(out: &mut [u8], at: usize, count: usize, byte: u8, more: usize, other: u8) -> usize
-    ensures { λ r. ⌜ Put (replicate count byte ++ replicate more other) at (now (out .entry)) (now (out .exit)) r ⌝ }
+// Two runs, one after the other, at the start of a part: as much of them as it has a place for.
+fn cut_runs(part: &mut [u8], count: usize, byte: u8, more: usize, other: u8)
+    ensures { λ _. ⌜ now (part .exit) ≡ starting (replicate count byte ++ replicate more other) (now (part .entry)) ⌝ }
 {
-    let room = left(out.len(), at);
+    let room = part.len();
+    let first = least(count, room);
+    let second = least(more, room - first);
+    fill(&mut *part, 0, first, byte);
+    fill(&mut *part, first, second, other);
+}
+
+// Two runs, one after the other, at the start of the part that is lent. Where all of both has a place they are filled as they are, so that
+// a length that is known needs no loop.
+pub fn write_runs(part: &mut [u8], count: usize, byte: u8, more: usize, other: u8)
+    ensures { λ _. ⌜ now (part .exit) ≡ starting (replicate count byte ++ replicate more other) (now (part .entry)) ⌝ }
+{
+    let room = part.len();
     if count <= room {
         if more <= room - count {
-            let second = at + count;
-            fill(&mut *out, at, count, byte);
-            fill(&mut *out, second, more, other);
-            return second + more;
+            fill(&mut *part, 0, count, byte);
+            fill(&mut *part, count, more, other);
+            return;
         }
     }
-    let middle = put_run(&mut *out, at, count, byte);
-    put_run(&mut *out, middle, more, other)
+    cut_runs(part, count, byte, more, other);
 }
 
 // One byte.

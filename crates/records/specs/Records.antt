@@ -3,7 +3,7 @@ use mathlib.Core.Path.{_≡_}
 use mathlib.Core.Option.{none}
 use mathlib.Core.List.{List}
 use Prim.Native.Nat.{ℕ, _≤_, _<_}
-use lib.ListN.{length, take}
+use lib.ListN.{length}
 use lib.Seq.{paste}
 use lib.Dec.{leb}
 use Rattle.theory.specs.Word.{Entry}
@@ -16,7 +16,7 @@ use Rattle.word.specs.declared.answers.Written.{Written}
 use Rattle.word.specs.declared.answers.Written.the-variants as W
 use Rattle.records.specs.declared.Numbers.{Numbers}
 use Rattle.table.specs.declared.tally.Tally.{Tally}
-use Rattle.word.specs.Answers.{zipped, kinds-of, operands-of, records-of, WritesInto}
+use Rattle.word.specs.Answers.{kinds-of, operands-of, records-of}
 use Rattle.records.specs.Answers.{no-numbers}
 use Rattle.table.specs.Tables.{judged}
 
@@ -39,7 +39,7 @@ pub record Storable (w : List ℕ) (count : ℕ) (table : List Instruction) : Ty
 unfoldable pub stored : List ℕ → ℕ → List Instruction → List Instruction
 stored w count table = paste table 0 (records-of (word-entries w)) count
 
--- Checking and writing
+-- Gathering
 
 abbrev pub no-tally : Tally
 no-tally = record { size = 0; good = 0; count = 0 }
@@ -54,7 +54,9 @@ judged-count t = answer-count (judged t)
 unfoldable pub finished : Tally → Numbers → Gathered
 finished t n = record { kinds = n .kinds; operands = n .operands; answer = judged t }
 
--- What is written of a gathered table: its numbers, or nothing where it was turned down
-abbrev pub WritesAs : Read → (kinds operands word : List ℕ) → Written → (word′ : List ℕ) → Type 0
-WritesAs (R.Done n) kinds operands word r word′ = WritesInto (zipped (take n kinds) (take n operands)) word r word′
-WritesAs (R.Refused q) kinds operands word r word′ = (r ≡ W.Refused q) × (word′ ≡ word)
+-- Writing
+
+-- How many of so many entries are written by an answer: all, or none where it is a refusal
+abbrev pub written-count : Written → ℕ → ℕ
+written-count (W.Done n) count = count
+written-count (W.Refused r) count = 0

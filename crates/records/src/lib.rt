@@ -1,17 +1,21 @@
 // Instruction tables as lent slices of records: thin functions over those on numbers. Each one that has the records in hand is free of
 // branches: where a rule turns its input down, the count handed to it is 0.
 ghost use mathlib.Core.Path.{_≡_};
+ghost use mathlib.Core.List.{[], _∷_};
 ghost use Prim.Native.Nat.{_≤_};
-ghost use lib.ListN.{length};
-ghost use Rattle.word.specs.Answers.{entries-of, read-answer, WritesInto};
+ghost use lib.ListN.{length, take};
+ghost use Rattle.output.specs.Puts.{starting};
+ghost use Rattle.instruction.specs.Instructions.{text, Spelt};
+ghost use Rattle.word.specs.Answers.{entry-of, entries-of, read-answer, WritesInto};
 ghost use Rattle.table.specs.Tables.{tally-of};
 ghost use Rattle.records.specs.Answers.{ReadsTable, gathered};
 ghost use Rattle.records.specs.Records.{answer-count, measured, Storable, stored};
-ghost use Rattle.records.specs.Records.{no-tally, judged-count, numbers-of, finished, WritesAs};
+ghost use Rattle.records.specs.Records.{no-tally, judged-count, numbers-of, finished, written-count};
+use instruction::put_instruction;
 use table::Tally;
+use table::answer_for;
 use table::judge;
 use table::with_entry;
-use table::write;
 use word::Instruction;
 use word::Read;
 use word::Written;
@@ -88,7 +92,7 @@ pub fn read_table(word: &[u8], table: &mut [Instruction]) -> Read
     answer
 }
 
-// Checking and writing
+// Gathering
 
 fn empty_tally() -> Tally
     ensures { λ r. ⌜ r ≡ no-tally ⌝ }
@@ -161,33 +165,46 @@ pub fn gather(table: &[Instruction]) -> Gathered
     finish(t, n)
 }
 
-// Writes the first `n` entries of a table of numbers.
-fn write_first(kinds: &[u8], operands: &[u32], n: usize, word: &mut [u8]) -> Written
-    requires { ⌜ (n ≤ length (now kinds)) × (n ≤ length (now operands)) ⌝ }
-    ensures { λ r. ⌜ WritesAs (Read.Done n) (now (kinds .entry)) (now (operands .entry)) (now (word .entry)) r (now (word .exit)) ⌝ }
-{
-    write(&kinds[..n], &operands[..n], word)
-}
+// Writing
 
-// Writes a gathered table.
-fn write_gathered(g: Gathered, word: &mut [u8]) -> Written
-    requires { ⌜ (answer-count (g .answer) ≤ length (g .kinds)) × (answer-count (g .answer) ≤ length (g .operands)) ⌝ }
-    ensures { λ r. ⌜ WritesAs (g .answer) (g .kinds) (g .operands) (now (word .entry)) r (now (word .exit)) ⌝ }
+// How many of so many records are written by an answer: all, or none where it is a refusal.
+fn count_written(answer: Written, count: usize) -> usize
+    ensures { λ n. ⌜ n ≡ written-count answer count ⌝ }
 {
-    let answer = g.answer;
     match answer {
-        Read::Done(n) => {
-            let kinds = g.kinds;
-            let operands = g.operands;
-            write_first(&kinds, &operands, n, word)
-        }
-        Read::Refused(r) => Written::Refused(r),
+        Written::Done(_) => count,
+        Written::Refused(_) => 0,
     }
 }
 
-// Writes a table of records as a word: rules 11, 13 and 14 as for tables, then 19.
+// One record, put at a place of a word. What it returns is the place after it.
+fn put_record(word: &mut [u8], place: usize, e: Instruction) -> usize
+    ensures { λ r. ⌜ Spelt (entry-of e ∷ []) place (now (word .entry)) (now (word .exit)) r ⌝ }
+{
+    put_instruction(word, place, e.operand as usize, e.kind as usize)
+}
+
+// The first `count` records, put at the start of a word.
+fn spell(table: &[Instruction], count: usize, word: &mut [u8])
+    requires { ⌜ count ≤ length (now table) ⌝ }
+    ensures { λ _. ⌜ now (word .exit) ≡ starting (text (take count (entries-of (now (table .entry))))) (now (word .entry)) ⌝ }
+{
+    let mut at: usize = 0;
+    let mut i: usize = 0;
+    while i < count {
+        let e = table[i];
+        at = put_record(&mut *word, at, e);
+        i += 1;
+    }
+}
+
+// Writes a table of records as a word, each record straight from the table: rules 11, 13 and 14 as for tables, then 19.
 pub fn write_table(table: &[Instruction], word: &mut [u8]) -> Written
     ensures { λ r. ⌜ WritesInto (entries-of (now (table .entry))) (now (word .entry)) r (now (word .exit)) ⌝ }
 {
-    write_gathered(gather(table), word)
+    let t = count_table(table);
+    let answer = answer_for(t, word.len());
+    let count = count_written(answer, table.len());
+    spell(table, count, word);
+    answer
 }

@@ -1,74 +1,84 @@
--- A table written as a word, entry by entry, and what is handed back and written in the end.
+-- A table written as a word: what is answered by its tally, and what is written then.
 use mathlib.Core.Path.{_≡_, refl, sym, ap, _∙_}
+use mathlib.Core.Bool.{Bool, true, false}
 use mathlib.Core.Option.{Option, none, some}
-use mathlib.Core.List.{List, [], _∷_, _++_}
-use Prim.Native.Nat.{ℕ, _+_, _≤_, _<_, min}
-use native.Mathlib.Numerals.{add-one}
+use mathlib.Core.List.{List}
+use Prim.Native.Nat.{ℕ, _≤_, _<_}
 use native.Mathlib.Omega.{arith}
-use lib.ListN.{length, take, getD}
-use lib.Seq.{take-suc}
-use borrow.Author.Tests.{le-leb, lt-leb}
-use Rattle.theory.specs.Word.{Entry, bytes-of, spell-entries}
-use Rattle.theory.specs.TurnedDown.{total, table-fault, read-table, rule-19, lent-after, write-word-into}
+use lib.Dec.{leb, ltb}
+use lib.ListN.{length}
+use borrow.Author.Tests.{ltb-true, ltb-false, leb-true, le-leb, lt-leb}
+use Rattle.theory.specs.Text.{Bytes}
+use Rattle.theory.specs.Word.{Entry}
+use Rattle.theory.specs.TurnedDown.{Answer, done, refused, total, table-fault, read-table, rule-19, lent-after, write-word-into}
 use Rattle.theory.specs.declared.Refusal.{Refusal}
-use Rattle.theory.proofs.Words.{entry, word-length, table-good}
-use Rattle.output.specs.Puts.{most, Put}
-use Rattle.output.proofs.Puts.{put-nothing, put-then, sets-front}
-use Rattle.theory.proofs.Entries.{bytes-append, entry-runs}
-use Rattle.word.specs.declared.answers.Read.the-variants as R
+use Rattle.theory.proofs.Words.{word-length, table-good}
+use Rattle.output.specs.Puts.{starting}
+use Rattle.output.proofs.Puts.{starting-whole}
+use Rattle.instruction.specs.Instructions.{text}
+use Rattle.word.specs.declared.answers.Written.{Written}
 use Rattle.word.specs.declared.answers.Written.the-variants.{Done, Refused}
-use Rattle.word.specs.Answers.{read-answer, WritesInto}
-use Rattle.table.specs.Tables.{entry-bytes, spelt}
+use Rattle.word.specs.Answers.{written-answer, WritesInto}
+use Rattle.table.specs.declared.tally.Tally.{Tally}
+use Rattle.table.specs.Tables.{tally-of, answered}
+use Rattle.table.proofs.Counts.{judged-tally}
 
--- The first entries of a table were put at the front of a word
-pub record Spelling (t : List Entry) (i : ℕ) (before after : List ℕ) (at : ℕ) : Type 0 where
-  pub put : Put (bytes-of (spell-entries (take i t))) 0 before after at
+-- An answer is not both
+never : {P : Type 0} (n : ℕ) (f : Refusal) → Done n ≡ Refused f → P
+never n f h = absurd (let x : _≡_ {A = ℕ} 0 1 = cc in omega arith)
 
-pub spelling-none : (t : List Entry) (word : List ℕ) → length word ≤ most → Spelling t 0 word word 0
-unfolding spell-entries
-spelling-none t word h = record { put = put-nothing word 0 (omega arith) h }
+module _ (t : List Entry) (word : Bytes) where
+  -- The tally of a table that passes has all of its symbols
+  size-of : table-fault t ≡ none → tally-of t .size ≡ total t
+  unfolding tally-of
+  size-of fine = omega (arith, table-good t fine .symbols)
 
--- One entry more
-pub spelling-more : (t : List Entry) (i : ℕ) → i < length t → {before middle after : List ℕ} {at next : ℕ} → Spelling t i before middle at
-    → Put (entry-bytes (getD t i (entry 0 0))) at middle after next → Spelling t (i + 1) before after next
-spelling-more t i h p q =
-    let here : Entry = getD t i (entry 0 0) in
-    let more : bytes-of (spell-entries (take (i + 1) t)) ≡ bytes-of (spell-entries (take i t)) ++ entry-bytes here =
-    rw (add-one i, take-suc t i (entry 0 0) h, bytes-append (take i t) (here ∷ []), entry-runs here) in
-    record { put = rw more (put-then (p .put) q) }
-
--- What is handed back in the end
-
-module _ (t : List Entry) (word : List ℕ) where
-  pub write-refused : (r : Refusal) → R.Refused r ≡ read-answer (read-table t) → WritesInto t word (Refused r) word
-  unfolding read-table write-word-into lent-after
-  write-refused r h = go (table-fault t) refl
+  -- What is answered
+  answered-tally : answered (tally-of t) (length word) ≡ written-answer (write-word-into word t)
+  unfolding answered read-table write-word-into rule-19
+  answered-tally = go (table-fault t) refl
     where
-      go : (o : Option Refusal) → table-fault t ≡ o → WritesInto t word (Refused r) word
-      go none e = absurd (let g : R.Refused r ≡ R.Done (length t) = rw e at h in let x : _≡_ {A = ℕ} 0 1 = cc in omega arith)
-      go (some s) e = let g : R.Refused r ≡ R.Refused s = rw e at h in let q : r ≡ s = cc in (rw (e, q), rw e)
+      room : table-fault t ≡ none → (b : Bool) → ltb (length word) (total t) ≡ b
+          → answered (tally-of t) (length word) ≡ written-answer (write-word-into word t)
+      room e true l =
+          let short : length word < length (text t) = omega (arith, word-length t, ltb-true (length word) (total t) l) in
+          rw (judged-tally t, e, size-of e, l, lt-leb (length (text t)) (length word) short)
+      room e false l =
+          let long : length (text t) ≤ length word = omega (arith, word-length t, ltb-false (length word) (total t) l) in
+          rw (judged-tally t, e, size-of e, l, le-leb (length (text t)) (length word) long) (ap Done (sym (word-length t)))
 
-  pub checked : (n : ℕ) → R.Done n ≡ read-answer (read-table t) → (table-fault t ≡ none) × (n ≡ length t)
-  unfolding read-table
-  checked n h = go (table-fault t) refl
+      go : (o : Option Refusal) → table-fault t ≡ o → answered (tally-of t) (length word) ≡ written-answer (write-word-into word t)
+      go none e = room e (ltb (length word) (total t)) refl
+      go (some r) e = rw (judged-tally t, e)
+
+  -- What the word is then
+  written-whole : (n : ℕ) → Done n ≡ written-answer (write-word-into word t)
+      → starting (text t) word ≡ lent-after word (write-word-into word t)
+  unfolding read-table write-word-into rule-19 lent-after
+  written-whole n h = go (table-fault t) refl
     where
-      go : (o : Option Refusal) → table-fault t ≡ o → (table-fault t ≡ none) × (n ≡ length t)
-      go none e = (e, let g : R.Done n ≡ R.Done (length t) = rw e at h in cc)
-      go (some r) e = absurd (let g : R.Done n ≡ R.Refused r = rw e at h in let x : _≡_ {A = ℕ} 0 1 = cc in omega arith)
+      room : table-fault t ≡ none → (b : Bool) → leb (length (text t)) (length word) ≡ b
+          → starting (text t) word ≡ lent-after word (write-word-into word t)
+      room e true l =
+          let long : length (text t) ≤ length word = leb-true (length (text t)) (length word) l in
+          rw (e, l) (starting-whole (text t) word long)
+      room e false l = never n (record { number = 19; place = 0 }) (rw (e, l) at h)
 
-  module _ (fine : table-fault t ≡ none) where
-    pub size-is : min (total t) 600001 ≡ total t
-    size-is = omega (arith, table-good t fine .symbols)
+      go : (o : Option Refusal) → table-fault t ≡ o → starting (text t) word ≡ lent-after word (write-word-into word t)
+      go none e = room e (leb (length (text t)) (length word)) refl
+      go (some r) e = never n r (rw e at h)
 
-    pub word-short : length word < total t → WritesInto t word (Refused (record { number = 19; place = 0 })) word
-    unfolding read-table write-word-into rule-19 lent-after
-    word-short h =
-        let n : _ = lt-leb (length (bytes-of (spell-entries t))) (length word) (omega (arith, word-length t)) in
-        (rw (fine, n), rw (fine, n))
+  module _ (s : Tally) (q : s ≡ tally-of t) (r : Written) (a : r ≡ answered s (length word)) where
+    answer-is : (r′ : Written) → r ≡ r′ → r′ ≡ written-answer (write-word-into word t)
+    answer-is r′ e = sym e ∙ a ∙ ap (λ (u : Tally). answered u (length word)) q ∙ answered-tally
 
-    pub word-fits : total t ≤ length word → (size : ℕ) → size ≡ total t → WritesInto t word (Done size) (spelt t word)
-    unfolding read-table write-word-into rule-19 lent-after spelt
-    word-fits h size e =
-        let long : length (bytes-of (spell-entries t)) ≡ total t = word-length t in
-        let n : _ = le-leb (length (bytes-of (spell-entries t))) (length word) (omega arith) in
-        (rw (fine, n) (ap Done (e ∙ sym long)), rw (fine, n) (sets-front word (bytes-of (spell-entries t)) (omega arith)))
+    pub wrote : (n : ℕ) → r ≡ Done n → (word′ : Bytes) → word′ ≡ starting (text t) word → WritesInto t word (Done n) word′
+    wrote n e word′ w = (answer-is (Done n) e, w ∙ written-whole n (answer-is (Done n) e))
+
+    pub left : (f : Refusal) → r ≡ Refused f → WritesInto t word (Refused f) word
+    unfolding lent-after
+    left f e = (answer-is (Refused f) e, go (write-word-into word t) (answer-is (Refused f) e))
+      where
+        go : (o : Answer Bytes) → Refused f ≡ written-answer o → word ≡ lent-after word o
+        go (done u) h = never (length u) f (sym h)
+        go (refused g) h = refl

@@ -1,18 +1,19 @@
--- What the functions inside this crate count of a table and write of it.
+-- What the functions inside this crate count of a table, and answer by that.
 use mathlib.Core.Path.{_≡_}
 use mathlib.Core.Bool.{Bool, cond, not, _||_}
-use mathlib.Core.List.{List, [], _∷_, _++_}
+use mathlib.Core.List.{List, [], _∷_}
 use Prim.Native.Nat.{ℕ, suc, _+_, _≤_, _<_, min}
-use lib.ListN.{length, getD, replicate}
-use lib.Seq.{sets}
+use lib.ListN.{length, getD}
 use lib.Dec.{eqb, ltb}
 use Rattle.theory.specs.Limits
-use Rattle.theory.specs.Word.{Entry, spell-entries, bytes-of}
+use Rattle.theory.specs.Word.{Entry}
 use Rattle.theory.specs.Machines.{is-limited}
 use Rattle.theory.specs.TurnedDown.{total}
 use Rattle.text.specs.Runs.{leading}
 use Rattle.word.specs.declared.answers.Read.{Read}
 use Rattle.word.specs.declared.answers.Read.the-variants.{Done, Refused}
+use Rattle.word.specs.declared.answers.Written.{Written}
+use Rattle.word.specs.declared.answers.Written.the-variants as W
 use Rattle.table.specs.declared.tally.Tally.{Tally}
 
 -- An entry that rule 13 turns down, and one that it lets pass
@@ -47,6 +48,14 @@ judged s =
     (cond (ltb Limits.most-instructions (s .count)) (Refused (record { number = 14; place = Limits.most-instructions }))
     (Done (s .count)))))
 
+-- Then 19, for a word of so many bytes
+abbrev pub written-by : Read → (size room : ℕ) → Written
+written-by (Refused r) size room = W.Refused r
+written-by (Done n) size room = cond (ltb room size) (W.Refused (record { number = 19; place = 0 })) (W.Done size)
+
+unfoldable pub answered : Tally → ℕ → Written
+answered s room = written-by (judged s) (s .size) room
+
 -- A kind that rule 13 lets pass
 pub record IsKind (kind : ℕ) : Type 0 where
   pub first : 1 ≤ kind
@@ -65,11 +74,3 @@ pub record AllGood (most : ℕ) (t : List Entry) : Type 0 where
 pub record Summed (operands : List ℕ) (total : ℕ) : Type 0 where
   pub each : (j : ℕ) → j < length operands → 1 ≤ getD operands j 0
   pub size : sum operands ≡ total
-
--- The bytes of an entry: its operand times 1, and then its kind times #
-abbrev pub entry-bytes : Entry → List ℕ
-entry-bytes e = replicate (e .operand) 49 ++ replicate (e .kind) 35
-
--- A word with the entries of a table spelled from its start on
-unfoldable pub spelt : List Entry → List ℕ → List ℕ
-spelt t word = sets word 0 (bytes-of (spell-entries t))

@@ -7,4 +7,5 @@ pub use checking::check;
 pub use tally::Tally;
 pub use tally::judge;
 pub use tally::with_entry;
+pub use writing::answer_for;
 pub use writing::write;

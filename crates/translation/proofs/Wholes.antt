@@ -1,7 +1,7 @@
 -- The word of a whole list: F1 and the code of the block that begins at its first line.
 use mathlib.Core.Path.{_≡_, sym, ap, _∙_}
 use mathlib.Core.List.{List, [], _∷_, _++_}
-use Prim.Native.Nat.{ℕ, _+_, _≤_}
+use Prim.Native.Nat.{ℕ, _+_, _/_, _≤_}
 use native.Mathlib.Omega.{arith}
 use lib.ListN.{length, length-append}
 use Rattle.theory.specs.ProgramText.{Command, variables, lines, block-of, commands}
@@ -19,11 +19,22 @@ use Rattle.emit.specs.Pieces.{Written}
 use Rattle.emit.proofs.Puts.{written-then}
 use Rattle.lengths.specs.Lengths.{symbols-of, length-of}
 use Rattle.lengths.specs.declared.Length.{Length}
-use Rattle.translation.specs.Sites.{block-at, Known, Site, Counts, Writes}
+use Rattle.translation.specs.Sites.{block-at, Known, Site, Noted, Counts, Writes}
 use Rattle.translation.specs.declared.sizes.Extent.{Extent}
 use Rattle.translation.specs.declared.writing.Spot.{Spot}
-use Rattle.translation.proofs.Sites.{accepted, Stands, whole-site, Bounds, bounds}
+use Rattle.translation.proofs.Sites.{accepted, numbers-count, Stands, whole-site, Bounds, bounds}
 use Rattle.output.proofs.Puts.{sets-front}
+
+-- A list has a third as many lines as numbers
+module _ (list : List ℕ) (count K : ℕ) (k : Known list count K) where
+  thirds : count ≡ length list / 3
+  thirds = omega (arith, numbers-count list count (k .accepts))
+
+  pub known-thirds : Known list (length list / 3) K
+  known-thirds = rw thirds at k
+
+  pub noted-thirds : (bodies : List ℕ) → Noted list K count bodies → Noted list K (length list / 3) bodies
+  noted-thirds bodies n = rw thirds at n
 
 module _ (list : List ℕ) (count K : ℕ) (k : Known list count K) where
   stands : Stands list count K 0 0 (block-of (commands list))

@@ -5,11 +5,12 @@ mod sizes;
 mod writing;
 
 use program::Checked;
+use program::Program;
 use theory::Refusal;
 use theory::Setting;
 use tidy::Form;
 ghost use mathlib.Core.Path.{_≡_};
-ghost use Prim.Native.Nat.{_≤_};
+ghost use Prim.Native.Nat.{_/_, _≤_};
 ghost use lib.ListN.{length};
 ghost use Rattle.theory.specs.TurnedDown.{done, read-list, read-list-under, read-text-under, lent-after};
 ghost use Rattle.theory.specs.ProgramText.{commands};
@@ -45,13 +46,13 @@ fn word_size(form: Form, list: &[u8], lines: usize, variables: u8, bodies: &mut 
 }
 
 // A form of the word of an accepted list, at the start of an output that has room for it.
-fn put_word(form: Form, list: &[u8], lines: usize, variables: u8, bodies: &[u16], out: &mut [u8])
-    requires { ⌜ Known (now list) lines variables × Noted (now list) variables lines (now bodies)
+fn put_word(form: Form, list: &[u8], variables: u8, bodies: &[u16; Program::LINES], out: &mut [u8])
+    requires { ⌜ Known (now list) (length (now list) / 3) variables × Noted (now list) variables (length (now list) / 3) (now bodies)
         × (length (text-in form (commands (now list))) ≤ length (now out)) ⌝ }
     ensures { λ _. ⌜ now (out .exit) ≡ lent-after (now (out .entry)) (done (text-in form (commands (now (list .entry))))) ⌝ }
 {
-    let place = emit::put_instruction(&mut *out, 0, 1, emit::FORWARD);
-    let block = writing::put_block(list, lines, variables, 0, 0, bodies, &mut *out, place);
+    let place = instruction::put_instruction(&mut *out, 0, 1, instruction::FORWARD);
+    let block = writing::put_block(list, variables, 0, 0, bodies, &mut *out, place);
     forms::put_added(form, &mut *out, block.place, variables);
 }
 
@@ -66,7 +67,7 @@ fn translate_accepted(
     requires { ⌜ Known (now list) lines variables ⌝ }
     ensures { λ r. ⌜ Answered form (read-list (now (list .entry))) (now (out .entry)) (now (out .exit)) r ⌝ }
 {
-    let mut bodies = [0u16; program::Program::LINES];
+    let mut bodies = [0u16; Program::LINES];
     let named = variables as u8;
     let size = word_size(form, list, lines, named, &mut bodies);
     if out.len() < size.symbols {
@@ -75,7 +76,7 @@ fn translate_accepted(
             place: 0,
         });
     }
-    put_word(form, list, lines, named, &bodies, &mut *out);
+    put_word(form, list, named, &bodies, &mut *out);
     Translated::Done(size)
 }
 
@@ -95,7 +96,7 @@ pub fn translate_text(setting: Setting, form: Form, text: &[u8], out: &mut [u8])
     ensures { λ r. ⌜ r ≡ translated form (now (out .entry)) (read-text-under setting (now (text .entry))) ⌝ }
     ensures { λ _. ⌜ now (out .exit) ≡ output form (now (out .entry)) (read-text-under setting (now (text .entry))) ⌝ }
 {
-    let mut list = [0u8; program::Program::NUMBERS];
+    let mut list = [0u8; Program::NUMBERS];
     match program::read(setting, text, &mut list) {
         Checked::Refused(r) => Translated::Refused(r),
         Checked::Accepted(p) => {

@@ -1,6 +1,6 @@
 -- `clearing` meets its contract: its instructions, one after the other.
 use borrow.Author.Needs.{needs}
-use Rattle.emit.proofs.Puts.{spelt-then}
+use Rattle.instruction.proofs.Instructions.{spelt-then}
 use Rattle.emit.proofs.clearing.Statement.{statement}
 use Rattle.emit.proofs.clearing.Tie as tie
 

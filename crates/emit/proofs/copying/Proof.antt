@@ -1,6 +1,6 @@
 -- `copying` meets its contract: its parts, one after the other.
 use borrow.Author.Needs.{needs}
-use Rattle.emit.proofs.Puts.{spelt-then}
+use Rattle.instruction.proofs.Instructions.{spelt-then}
 use Rattle.emit.proofs.copying.Statement.{statement}
 use Rattle.emit.proofs.copying.Tie as tie
 

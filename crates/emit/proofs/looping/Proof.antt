@@ -1,6 +1,6 @@
 -- `looping` meets its contract: its parts, one after the other.
 use borrow.Author.Needs.{needs}
-use Rattle.emit.proofs.Puts.{spelt-then}
+use Rattle.instruction.proofs.Instructions.{spelt-then}
 use Rattle.emit.proofs.looping.Statement.{statement}
 use Rattle.emit.proofs.looping.Tie as tie
 

@@ -1,6 +1,6 @@
 -- `returning` meets its contract: its instructions, one after the other.
 use borrow.Author.Needs.{needs}
-use Rattle.emit.proofs.Puts.{spelt-then}
+use Rattle.instruction.proofs.Instructions.{spelt-then}
 use Rattle.emit.proofs.returning.Statement.{statement}
 use Rattle.emit.proofs.returning.Tie as tie
 

@@ -1,6 +1,6 @@
 -- `sharing` meets its contract: its instructions, one after the other.
 use borrow.Author.Needs.{needs}
-use Rattle.emit.proofs.Puts.{spelt-then}
+use Rattle.instruction.proofs.Instructions.{spelt-then}
 use Rattle.emit.proofs.sharing.Statement.{statement}
 use Rattle.emit.proofs.sharing.Tie as tie
 

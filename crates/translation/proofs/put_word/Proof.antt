@@ -9,7 +9,7 @@ put-instruction-requires c κs = search needs
 
 put-block-requires : tie.Need-put-block-requires
 put-block-requires c κs =
-    let k : _ = c .before .before .before .before .before .before .before .before .pre in
+    let k : _ = c .before .before .before .before .before .before .before .pre in
     (site _ _ _ (k .0), k .1)
 
 put-added-requires : tie.Need-put-added-requires
@@ -23,7 +23,7 @@ returns c =
     let a : _ = c .before .before in
     let b : _ = a .before .before .before .before in
     let f : _ = b .before .before .before .before in
-    let g : _ = f .before .before .before .before .before in
+    let g : _ = f .before .before .before .before in
     let k : _ = g .pre in
     word-put _ _ _ (k .0) (g .args .form) (k .2) (f .put-instruction .ensures) (b .put-block .ensures) (a .put-added .ensures)
 

@@ -3,7 +3,7 @@ use mathlib.Core.Path.{ap}
 use native.Mathlib.Omega.{arith}
 use borrow.Author.Needs.{needs}
 use Rattle.translation.proofs.Answering.{answered-short, answered-done}
-use Rattle.translation.proofs.Wholes.{small}
+use Rattle.translation.proofs.Wholes.{known-thirds, noted-thirds, small}
 use Rattle.translation.proofs.translate_accepted.Statement.{statement}
 use Rattle.translation.proofs.translate_accepted.Tie as tie
 
@@ -23,14 +23,12 @@ returns c =
     let s : _ = ap (λ z. z .symbols) (z .word-size .ensures .0) in
     answered-short _ _ _ _ (p .accepts .read) (omega (arith, s, c .if1 .taken))
 
-slice-aggregate-put-word : tie.Need-slice-aggregate-put-word
-slice-aggregate-put-word c = search needs
-
 put-word-requires : tie.Need-put-word-requires
 put-word-requires c κs =
     let z : _ = c .before .before .before .before .before in
     let s : _ = ap (λ z. z .symbols) (z .word-size .ensures .0) in
-    (z .before .before .before .before .pre, z .word-size .ensures .1, omega (arith, s, c .before .before .if1 .left))
+    let k : _ = z .before .before .before .before .pre in
+    (known-thirds _ _ _ k, noted-thirds _ _ _ k _ (z .word-size .ensures .1), omega (arith, s, c .before .before .if1 .left))
 
 same-length : tie.Need-same-length
 same-length c = search needs
@@ -52,7 +50,6 @@ translate-accepted-spec =
     slice-aggregate-word-size
     word-size-requires
     returns
-    slice-aggregate-put-word
     put-word-requires
     same-length
     returns-2)

@@ -7,8 +7,8 @@ use Rattle.memory.proofs.fresh.lay.Tie as tie
 sub-rest : tie.Need-sub-rest
 sub-rest c = search needs
 
-put-runs-requires : tie.Need-put-runs-requires
-put-runs-requires c κs = search needs
+write-runs-requires : tie.Need-write-runs-requires
+write-runs-requires c κs = search needs
 
 same-length : tie.Need-same-length
 same-length c = search needs
@@ -16,7 +16,7 @@ same-length c = search needs
 returns : tie.Need-returns
 returns c =
     let start = c .before .before .before .before .before in
-    runs-laid (start .args .n) (start .pre) (c .before .before .put-runs .ensures)
+    runs-laid (start .args .part .now) (start .args .n) (start .pre) (c .before .before .write-runs .ensures)
 
 pub lay-spec : {M : Type 1} → statement M
-lay-spec = tie.close (tie.spec sub-rest put-runs-requires same-length returns)
+lay-spec = tie.close (tie.spec sub-rest write-runs-requires same-length returns)

@@ -1,9 +1,10 @@
 -- `put_block` and `put_pair` meet their contracts. A block's loop has written what it passed; a pair's body begins on a later line, so the
 -- measures fall.
 use mathlib.Core.Path.{sym, _∙_}
-use Prim.Native.Nat.{ℕ, _<_, _+_, _-_, _*_}
+use Prim.Native.Nat.{ℕ, _<_, _+_, _-_, _*_, _/_}
 use native.Mathlib.Omega.{arith}
 use borrow.Author.Needs.{needs}
+use lib.ListN.{length}
 use borrow.Fn.Kinds.{In}
 use borrow.Fn.PlainCycle.{Measures, is, falls, and}
 use Rattle.translation.proofs.Sites.{bounds}
@@ -31,17 +32,17 @@ use Rattle.translation.proofs.writing.+put_block+put_pair.Tie.{close}
 
 -- By the lines left
 abbrev μ-block : Measures 3 block-kinds.ps ℕ
-μ-block κs a = 2 * (a .1 .0 - a .1 .1 .1 .1 .0) + 1
+μ-block κs a = 2 * (length (a .0 .now) / 3 - a .1 .1 .1 .0) + 1
 
 abbrev μ-pair : Measures 3 pair-kinds.ps ℕ
-μ-pair κs a = 2 * (a .1 .0 - a .1 .1 .1 .1 .0)
+μ-pair κs a = 2 * (length (a .0 .now) / 3 - a .1 .1 .1 .0)
 
 abbrev Inv-loop : block.InvT-loop
-Inv-loop list lines variables depth at bodies out₀ place next₀ here₀ out next here =
+Inv-loop list variables depth at bodies out₀ place lines next₀ here₀ out next here =
     Writing list lines variables depth at place out₀ out next here
 
 abbrev μ-loop : block.MeasureT-loop
-μ-loop list lines variables depth at bodies out₀ place next₀ here₀ out next here = lines - next
+μ-loop list variables depth at bodies out₀ place lines next₀ here₀ out next here = lines - next
 
 module _ (t : ℕ) where
   -- What each may assume where its measure is t, and where it is less
@@ -78,7 +79,7 @@ module _ (t : ℕ) where
   )
 
   block-holds : block.Need-loop-holds in-block block-at block-reads.Post Inv-loop μ-loop
-  block-holds c = writing-none _ _ _ _ _ _ _ (omega arith) (omega arith) (c .before .before .before .pre .1 .0)
+  block-holds c = writing-none _ _ _ _ _ _ _ (omega arith) (omega arith) (c .before .before .pre .1 .0)
 
   block-begins : block.Need-begins-requires in-block block-at block-reads.Post Inv-loop μ-loop
   block-begins c κs = c .loop .inv .passed .site .known .accepts
@@ -87,7 +88,7 @@ module _ (t : ℕ) where
   block-pair c κs =
       let inv : _ = c .before .before .before .loop .inv in
       let goes : _ = sym (c .before .before .begins .ensures) ∙ c .before .if1 .taken in
-      (omega (arith, inv .passed .onward), (inv .passed .site, goes, c .before .before .before .before .before .before .before .pre .1 .1))
+      (omega (arith, inv .passed .onward), (inv .passed .site, goes, c .before .before .before .before .before .before .pre .1 .1))
 
   block-less : block.Need-loop-less in-block block-at block-reads.Post Inv-loop μ-loop
   block-less c =
@@ -112,29 +113,29 @@ module _ (t : ℕ) where
 
   pair-line : pair.Need-line-at-requires in-pair pair-here pair-reads.Post
   pair-line c κs =
-      let q : _ = c .before .before .before .pre .1 in
+      let q : _ = c .before .before .pre .1 in
       W.here _ _ _ _ _ (q .0) (q .1) .numbers
 
   pair-next : pair.Need-add-first in-pair pair-here pair-reads.Post
   pair-next c =
-      let q : _ = c .before .before .before .before .pre .1 in
+      let q : _ = c .before .before .before .pre .1 in
       omega (arith, W.here _ _ _ _ _ (q .0) (q .1) .below)
 
   pair-plain : pair.Need-plain-line-requires in-pair pair-here pair-reads.Post
   pair-plain c κs = search needs
 
   pair-deeper : pair.Need-deeper-requires in-pair pair-here pair-reads.Post
-  pair-deeper c κs = omega (arith, bounds _ _ _ _ _ (c .before .before .before .before .before .before .pre .1 .0) .shallow)
+  pair-deeper c κs = omega (arith, bounds _ _ _ _ _ (c .before .before .before .before .before .pre .1 .0) .shallow)
 
   pair-mul : pair.Need-mul-m in-pair pair-here pair-reads.Post
   pair-mul c =
-      let q : _ = c .before .before .before .before .before .before .before .pre .1 in
+      let q : _ = c .before .before .before .before .before .before .pre .1 in
       omega (arith, W.here _ _ _ _ _ (q .0) (q .1) .below, bounds _ _ _ _ _ (q .0) .few-lines)
 
-  pair-noted : pair.Need-shared-slice-read-m in-pair pair-here pair-reads.Post
+  pair-noted : pair.Need-element-copy-out-m in-pair pair-here pair-reads.Post
   pair-noted c =
-      let q : _ = c .before .before .before .before .before .before .before .before .pre .1 in
-      omega (arith, W.here _ _ _ _ _ (q .0) (q .1) .below, q .2 .room)
+      let q : _ = c .before .before .before .before .before .before .pre .1 in
+      omega (arith, W.here _ _ _ _ _ (q .0) (q .1) .below, bounds _ _ _ _ _ (q .0) .few-lines)
 
   pair-front : pair.Need-before-body-requires in-pair pair-here pair-reads.Post
   pair-front c κs = search needs
@@ -143,19 +144,19 @@ module _ (t : ℕ) where
   pair-body c κs =
       let d : _ = c .before .before .before .before .before .before in
       let l : _ = d .before .before .before in
-      let q : _ = l .before .before .before .before .pre .1 in
+      let q : _ = l .before .before .before .pre .1 in
       let p : _ = pair-at _ _ _ _ _ (q .0) (q .1) _ (l .line-at .ensures) (d .before .if1 .left) in
       (omega (arith, W.here _ _ _ _ _ (q .0) (q .1) .below), (rw (d .deeper .ensures) (p .site), q .2))
 
   pair-back : pair.Need-after-body-requires in-pair pair-here pair-reads.Post
   pair-back c κs = search needs
 
-  pair-after : pair.Need-add-t21 in-pair pair-here pair-reads.Post
+  pair-after : pair.Need-add-t20 in-pair pair-here pair-reads.Post
   pair-after c =
       let b : _ = c .before .before .before .before .before .before .before in
       let d : _ = b .before .before .before .before .before .before .before in
       let l : _ = d .before .before .before in
-      let q : _ = l .before .before .before .before .pre .1 in
+      let q : _ = l .before .before .before .pre .1 in
       let p : _ = pair-at _ _ _ _ _ (q .0) (q .1) _ (l .line-at .ensures) (d .before .if1 .left) in
       let low : _ = closes-below _ _ _ _ _ (q .0) (q .1) _ p _ (d .deeper .ensures) (b .put-block .ensures .ended) in
       omega (arith, low)
@@ -167,7 +168,7 @@ module _ (t : ℕ) where
   pair-returns c =
       let w : _ = c .before .before in
       let l : _ = w .before .before .before .before in
-      let q : _ = l .before .before .before .before .pre .1 in
+      let q : _ = l .before .before .before .pre .1 in
       let p : _ = plain-at _ _ _ _ _ (q .0) (q .1) _ (l .line-at .ensures) (w .before .before .if1 .taken) in
       plain-writes _ _ _ _ _ (q .0) (q .1) _ p (w .plain-line .ensures)
 
@@ -181,7 +182,7 @@ module _ (t : ℕ) where
       let f : _ = b .before .before .before .before in
       let d : _ = f .before .before .before in
       let l : _ = d .before .before .before in
-      let q : _ = l .before .before .before .before .pre .1 in
+      let q : _ = l .before .before .before .pre .1 in
       let p : _ = pair-at _ _ _ _ _ (q .0) (q .1) _ (l .line-at .ensures) (d .before .if1 .left) in
       let low : _ = W.here _ _ _ _ _ (q .0) (q .1) .below in
       let m : _ = noted-counts _ _ (q .2) _ _ low (q .1) (l .line-at .ensures) (d .before .if1 .left) in
