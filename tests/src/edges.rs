@@ -174,10 +174,14 @@ pub fn programs() -> Vec<Vec<Command>> {
         faulty.extend([Command::Clear(32), Command::Close(Kind::Loop, 0)]);
         found.push(faulty);
     }
-    found.push(
-        [vec![Command::Open(Kind::Loop, 31); 16], vec![Command::Copy { to: 31, from: 30 }; 480], vec![Command::Close(Kind::Loop, 31); 16]]
-            .concat(),
-    );
+    // the longest transfers: 480 copies inside 16 pairs, the outermost a LOOP or a WHILE
+    for kind in [Kind::Loop, Kind::While] {
+        let around = |outer: Command, inner: Command| [vec![outer], vec![inner; 15]].concat();
+        let opens = around(Command::Open(kind, 31), Command::Open(Kind::Loop, 31));
+        let mut closes = around(Command::Close(kind, 31), Command::Close(Kind::Loop, 31));
+        closes.reverse();
+        found.push([opens, vec![Command::Copy { to: 31, from: 30 }; 480], closes].concat());
+    }
     found.extend(long_words());
     found
 }

@@ -97,11 +97,11 @@ fn symbols(program: &Program, form: Form) -> usize {
     program.read(Setting::Any).map_or(9, |c| spell(&translate(form, &c)).len())
 }
 
-/// A translation in each form, and by a number that is neither's, with outputs of the length that each form's word has, of one less, and of
-/// more, for the plain form as much as `longest` allows.
+/// A translation in each form, and by a number that is neither's, with outputs of the length that each form's word has, of one less and of
+/// one more, and for the plain form of as much as `longest` allows.
 fn translation_edges(tally: &mut Tally, setting: u32, program: &Program, longest: usize) {
     let (plain, tidy) = (symbols(program, Form::Plain), symbols(program, Form::Tidy));
-    let mut lents = vec![plain - 1, plain, tidy - 1, tidy];
+    let mut lents = [plain, tidy].map(|length| [length - 1, length, length + 1]).concat();
     lents.sort_unstable();
     lents.dedup();
     for form in [PLAIN, TIDY, u32::MAX] {
@@ -261,7 +261,9 @@ fn at_limits(tally: &mut Tally) {
         }
     }
     for (kinds, operands) in edges::tables() {
-        for lent in [0, 83, 599_999, 600_000] {
+        let length = kinds.iter().map(|&kind| kind as usize).sum::<usize>() + operands.iter().map(|&operand| operand as usize).sum::<usize>();
+        let around = [length.saturating_sub(1), length, length + 1];
+        for lent in [0, 83, 599_999, 600_000].into_iter().chain(around.into_iter().filter(|&lent| lent < 600_000)) {
             tally.hold(Case::WriteWord { kinds: kinds.clone(), operands: operands.clone(), lent });
         }
         for (registers, budget) in [(64, 99), (1, 99), (63, 0)] {
