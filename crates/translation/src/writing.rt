@@ -1,5 +1,5 @@
-// The word, written by two functions that call each other, as the sizes are counted. The instructions of every body were noted before. Calls
-// are nested as deep as pairs, so a call keeps little: the notes are lent as an array, and the number of lines is read off the list.
+// The word, written by two functions that call each other, as the sizes are counted. The instructions of every body were noted before.
+// Calls are nested as deep as pairs, so a call keeps little: the notes are lent as an array, and the number of lines is read off the list.
 ghost use mathlib.Core.Path.{_≡_};
 ghost use mathlib.Core.Bool.{true};
 ghost use Prim.Native.Nat.{_/_};
