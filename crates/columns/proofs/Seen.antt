@@ -27,7 +27,7 @@ pub record Seen (l : List ℕ) (k : ℕ) (seen : List Bool) (variables : List �
   pub differ : distinct (drop k l) ≡ true
   pub kept : variables ≡ cells 32 (kept-from k l)
 
-nothing-more : (b : Bool) → (b && false) ≡ false
+pub nothing-more : (b : Bool) → (b && false) ≡ false
 nothing-more true = refl
 nothing-more false = refl
 

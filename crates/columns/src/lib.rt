@@ -1,6 +1,9 @@
-// The columns of a run sheet: the variables that they are named after, and values that go to these.
+// The columns of a run sheet: the variables that they are named after, values that go to these, and values against their capacities.
 ghost use mathlib.Core.Path.{_≡_};
 ghost use lib.ListN.{take};
+ghost use Rattle.theory.specs.Runs.{register};
+ghost use Rattle.theory.specs.Machines.{capacity-of};
+ghost use Rattle.theory.specs.TurnedDown.{within-columns};
 ghost use Rattle.columns.specs.Columns.{no-columns, columns-as, starts};
 
 // The variables of the columns in order. They fit where each is one of the 32 and none comes twice; where they don't, none is handed back.
@@ -81,4 +84,35 @@ pub fn spread(
         }
     }
     values
+}
+
+// The capacity of a variable; 0 for one that is none of the 32.
+fn capacity_of(capacities: [u32; Columns::MOST], i: usize) -> u32
+    ensures { λ r. ⌜ r ≡ capacity-of capacities (register i) ⌝ }
+{
+    if i < Columns::MOST { capacities[i] } else { 0 }
+}
+
+// Rule 18, of the first `count` values, seen from the last: each is at most the capacity of the variable of its column.
+pub fn all_within(
+    capacities: [u32; Columns::MOST],
+    variables: [u8; Columns::MOST],
+    count: usize,
+    numbers: [u32; Columns::MOST],
+) -> bool
+    ensures { λ r. ⌜ r ≡ within-columns capacities (take count variables) (take count numbers) ⌝ }
+{
+    let mut k = if count < Columns::MOST {
+        count
+    } else {
+        Columns::MOST
+    };
+    while 0 < k {
+        k -= 1;
+        let variable = wide(variables[k]);
+        if capacity_of(capacities, variable) < numbers[k] {
+            return false;
+        }
+    }
+    true
 }

@@ -5,7 +5,6 @@ ghost use Rattle.theory.specs.Word.{Entry};
 ghost use Rattle.word.specs.Answers.{entries-of};
 ghost use Rattle.records.specs.Answers.{gathered};
 ghost use Rattle.memory.specs.Calls.{memory, handed, table-called};
-use memory::Machine;
 use memory::Position;
 use memory::Run;
 use precedence::turned_down;
@@ -15,7 +14,7 @@ use word::Read;
 
 // Runs a table that was gathered into numbers: rules 10, then 11, 13, 14 and 15 as for tables.
 fn run_gathered(
-    m: Machine,
+    capacities: &[u16],
     store: &mut [u8],
     lengths: &mut [u16],
     at: Position,
@@ -24,7 +23,7 @@ fn run_gathered(
 ) -> Run
     requires { ⌜ ((t : List Entry) × (g ≡ gathered t)) ⌝ }
     ensures { λ r. ⌜ ((t : List Entry) → g ≡ gathered t → handed r (now (store .exit)) (now (lengths .exit))
-        ≡ table-called (memory m (now (store .entry)) (now (lengths .entry))) at budget t) ⌝ }
+        ≡ table-called (memory (now (capacities .entry)) (now (store .entry)) (now (lengths .entry))) at budget t) ⌝ }
 {
     let answer = g.answer;
     match answer {
@@ -32,7 +31,7 @@ fn run_gathered(
             let kinds = g.kinds;
             let operands = g.operands;
             engine::run_numbers(
-                m,
+                capacities,
                 store,
                 lengths,
                 at,
@@ -41,13 +40,13 @@ fn run_gathered(
                 budget,
             )
         }
-        Read::Refused(r) => turned_down(m, store, lengths, at, r),
+        Read::Refused(r) => turned_down(capacities, store, lengths, at, r),
     }
 }
 
 // Runs a table of instruction records on a machine: rules 10, then 11, 13, 14 and 15, whose places are entries.
 pub fn run_table(
-    m: Machine,
+    capacities: &[u16],
     store: &mut [u8],
     lengths: &mut [u16],
     at: Position,
@@ -55,7 +54,15 @@ pub fn run_table(
     budget: u32,
 ) -> Run
     ensures { λ r. ⌜ handed r (now (store .exit)) (now (lengths .exit))
-        ≡ table-called (memory m (now (store .entry)) (now (lengths .entry))) at budget (entries-of (now (table .entry))) ⌝ }
+        ≡ table-called (memory (now (capacities .entry)) (now (store .entry)) (now (lengths .entry))) at budget
+        (entries-of (now (table .entry))) ⌝ }
 {
-    run_gathered(m, store, lengths, at, records::gather(table), budget)
+    run_gathered(
+        capacities,
+        store,
+        lengths,
+        at,
+        records::gather(table),
+        budget,
+    )
 }

@@ -7,7 +7,7 @@ use Prim.Native.Nat.{ℕ}
 use native.Mathlib.Omega.{arith}
 use lib.ListN.{length}
 use Rattle.theory.specs.Word.{Entry}
-use Rattle.theory.specs.Machines.{Memory, is-memory}
+use Rattle.theory.specs.Machines.{Memory, count, is-memory}
 use Rattle.theory.specs.TurnedDown.{answer, read-table, read-table-for, table-fault, rule-10, rule-15}
 use Rattle.theory.specs.declared.Refusal.{Refusal}
 use Rattle.word.specs.declared.answers.Read.{Read}
@@ -52,11 +52,11 @@ module _ (m : Memory) (p : Position) (budget : ℕ) (t : List Entry) where
   unfolding table-called read-table-for
   table-refused r f = rw f (refused-run m p budget r)
 
-  pub table-read : is-memory m ≡ true → table-fault t ≡ none → table-called m p budget t ≡ called m p budget (table-for (m .count) t)
+  pub table-read : is-memory m ≡ true → table-fault t ≡ none → table-called m p budget t ≡ called m p budget (table-for (count m) t)
   unfolding table-called rule-10 read-table-for table-for
   table-read h f = rw (h, f)
 
   -- the run on rings, which knows no rule but 10 and 15, answers as the table's does
   pub table-run : table-fault t ≡ none → usable-called m p budget t ≡ table-called m p budget t
   unfolding usable-called usable-table table-called read-table-for rule-15
-  table-run f = rw (f, accepted-search (m .count) t f)
+  table-run f = rw (f, accepted-search (count m) t f)

@@ -2,7 +2,6 @@
 ghost use mathlib.Core.Path.{_≡_};
 ghost use Rattle.word.specs.Answers.{zipped};
 ghost use Rattle.memory.specs.Calls.{memory, handed, table-called};
-use memory::Machine;
 use memory::Position;
 use memory::Run;
 use precedence::turned_down;
@@ -10,7 +9,7 @@ use word::Read;
 
 // Runs a table of numbers on a machine: rules 10, then 11, 13, 14 and 15, whose places are entries. A number that is missing counts as 0.
 pub fn run_numbers(
-    m: Machine,
+    capacities: &[u16],
     store: &mut [u8],
     lengths: &mut [u16],
     at: Position,
@@ -19,11 +18,11 @@ pub fn run_numbers(
     budget: u32,
 ) -> Run
     ensures { λ r. ⌜ handed r (now (store .exit)) (now (lengths .exit))
-        ≡ table-called (memory m (now (store .entry)) (now (lengths .entry))) at budget
+        ≡ table-called (memory (now (capacities .entry)) (now (store .entry)) (now (lengths .entry))) at budget
         (zipped (now (kinds .entry)) (now (operands .entry))) ⌝ }
 {
     match table::check(kinds, operands) {
-        Read::Done(_) => rings::run(m, store, lengths, at, kinds, operands, budget),
-        Read::Refused(r) => turned_down(m, store, lengths, at, r),
+        Read::Done(_) => rings::run(capacities, store, lengths, at, kinds, operands, budget),
+        Read::Refused(r) => turned_down(capacities, store, lengths, at, r),
     }
 }

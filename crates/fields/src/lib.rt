@@ -9,14 +9,10 @@ ghost use Prim.Native.Nat.{_^_, _≤_, _<_, min};
 ghost use Rattle.fields.specs.Fields.{most, spelled, all-of, field-of, numbers-of};
 ghost use Rattle.fields.specs.Fields.{under, put-in, no-numbers, line-of, with-number};
 
-// The number that a field spells, of any size: kept at MOST where it is larger, which is above any capacity.
+// The number that a field spells, of any size: kept at ABOVE where it is larger.
 enum Spelled {
     Nothing,
     Number(u64),
-}
-
-impl Spelled {
-    const MOST: u64 = 4294967296;
 }
 
 // The numbers of a line: the first 32, and how many there are. `below` says that all are below a bound; one that isn't is kept as 0.
@@ -54,9 +50,9 @@ fn field(text: &[u8], named: bool) -> Spelled
     ensures { λ r. ⌜ r ≡ spelled (field-of named (now (text .entry))) ⌝ }
 {
     if named {
-        whole(text.len(), name(text, 0, Spelled::MOST))
+        whole(text.len(), name(text, 0, Line::ABOVE))
     } else {
-        whole(text.len(), numeral(text, 0, Spelled::MOST))
+        whole(text.len(), numeral(text, 0, Line::ABOVE))
     }
 }
 
@@ -79,6 +75,9 @@ fn placed(mut numbers: [u32; Columns::MOST], at: usize, n: u32) -> [u32; Columns
 }
 
 impl Line {
+    // Above any capacity.
+    pub const ABOVE: u64 = 4294967296;
+
     // No numbers: those of the empty line, or of one of the wrong shape.
     fn none(shaped: bool) -> Self
         ensures { λ r. ⌜ r ≡ no-numbers shaped ⌝ }
@@ -123,7 +122,7 @@ impl Line {
 pub fn read_line(text: &[u8], named: bool, bound: u64) -> Line
     ensures { λ r. ⌜ r ≡ line-of (min bound most) (numbers-of named (now (text .entry))) ⌝ }
 {
-    let kept = least(bound, Spelled::MOST);
+    let kept = least(bound, Line::ABOVE);
     let mut line = Line::none(true);
     let mut at: usize = if text.len() == 0 { 1 } else { 0 };
     while at <= text.len() {

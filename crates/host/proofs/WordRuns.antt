@@ -7,7 +7,7 @@ use Rattle.theory.specs.Text.{Bytes}
 use Rattle.theory.specs.Runs.{Outcome}
 use Rattle.theory.specs.Word as W
 use Rattle.theory.specs.Word.{Entry}
-use Rattle.theory.specs.Machines.{Memory}
+use Rattle.theory.specs.Machines.{Memory, count}
 use Rattle.theory.specs.TurnedDown.{Answer, done, refused, read-word-for, read-table-for, run-on}
 use Rattle.memory.specs.Calls.{Called, position, handed, answered, word-called, table-called}
 use Rattle.memory.specs.declared.answers.Position.{Position}
@@ -23,12 +23,12 @@ packs-run m at (refused r) = refl
 
 -- The calls of crate machine, as what was read, run
 pub word-is : (m : Memory) (at : Position) (budget : ℕ) (word : Bytes)
-    → word-called m at budget word ≡ answered m at (run-on m (position at) budget (read-word-for (m .count) word))
+    → word-called m at budget word ≡ answered m at (run-on m (position at) budget (read-word-for (count m) word))
 unfolding word-called
 word-is m at budget word = refl
 
 pub table-is : (m : Memory) (at : Position) (budget : ℕ) (t : List Entry)
-    → table-called m at budget t ≡ answered m at (run-on m (position at) budget (read-table-for (m .count) t))
+    → table-called m at budget t ≡ answered m at (run-on m (position at) budget (read-table-for (count m) t))
 unfolding table-called
 table-is m at budget t = refl
 

@@ -16,7 +16,11 @@ use Rattle.word.specs.Answers as Words
 use Rattle.states.specs.Numbers.{run-numbers, LentAfter}
 use Rattle.memory.specs.Calls.{position, answered}
 use Rattle.memory.specs.declared.answers.Position.{Position}
-use Rattle.packing.specs.Packed.{packed, commands, sizes, count, ending}
+use Rattle.report.specs.Answers.{report-into}
+use Rattle.report.specs.declared.Reported.{Reported}
+use Rattle.report.specs.declared.Reported.the-variants as Reported
+use Rattle.packing.specs.Packed.{pack, packed, commands, sizes, count, ending}
+use Rattle.packing.specs.Answered.{refusal}
 
 -- Under a setting, a text read into a lent list of three numbers a command: the variables and the commands
 pub record ReadsProgram (σ : Setting) (text : Bytes) (list : List ℕ) (r : ℕ) (list′ : List ℕ) : Type 0 where
@@ -33,15 +37,12 @@ pub record Translates (form : Form) (A : Answer (List Command)) (word : Bytes) (
   pub result : r ≡ packed (sizes form) (translate-into (text-in form) word A)
   pub word-after : word′ ≡ lent-after word (mapped (text-in form) (translate-into (text-in form) word A))
 
--- A program handed in as A, run from a state that is lent as 51 numbers: how the run ended, with its steps; and the numbers then
+-- A program handed in as A, run from a state that is lent as 82 numbers: how the run ended, with its steps; and the numbers then
 pub record RunsSource (A : Answer (List Command)) (numbers : List ℕ) (budget r : ℕ) (numbers′ : List ℕ) : Type 0 where
   pub result : r ≡ packed ending (after A (run-numbers numbers budget))
   pub state-after : LentAfter numbers (after A (run-numbers numbers budget)) numbers′
 
--- A machine as it is lent, and where it stands
-abbrev pub lent : ℕ → ℕ → Bytes → List ℕ → Memory
-lent registers capacity store lengths = record { count = registers; capacity = capacity; store = store; lengths = lengths }
-
+-- Where a lent machine stands
 abbrev pub stands-at : ℤ → ℕ → Position
 stands-at place steps = record { place = place; steps = steps }
 
@@ -63,3 +64,13 @@ pub record ReadsWord (word : Bytes) (kinds operands : List ℕ) (r : ℕ) (kinds
 pub record WritesWord (table : List Entry) (word : Bytes) (r : ℕ) (word′ : Bytes) : Type 0 where
   pub result : r ≡ packed count (write-word-into word table)
   pub word-after : word′ ≡ lent-after word (write-word-into word table)
+
+-- The report of a program's text and a sheet on registers of these capacities, written into lent bytes: the bytes
+pub record Reports (text sheet : Bytes) (capacities : List ℕ) (out : Bytes) (r : ℕ) (out′ : Bytes) : Type 0 where
+  pub result : r ≡ packed count (report-into out capacities text sheet)
+  pub out-after : out′ ≡ lent-after out (report-into out capacities text sheet)
+
+-- The number of what crate report hands back
+abbrev pub report-made : Reported → ℕ
+report-made (Reported.Done bytes) = pack 0 0 bytes
+report-made (Reported.Refused r) = refusal r

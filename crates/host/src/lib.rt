@@ -1,21 +1,21 @@
 // The library for the tablets' host: entries on numbers and slices, to be called from C by include/mudzkvopi.h. Each entry hands its
 // arguments on to the crate that does the work, and packs what comes back into one number.
-use memory::Machine;
 use memory::Position;
 ghost use mathlib.Core.Path.{_≡_};
+ghost use lib.ListN.{length};
 ghost use Rattle.theory.specs.TurnedDown.{read-text-under, read-list-under, read-word-for, read-table-for};
 ghost use Rattle.word.specs.Answers.{zipped};
 ghost use Rattle.packing.specs.Packed.{setting-of, form-of, packed, symbols};
-ghost use Rattle.memory.specs.Calls.{value-of};
+ghost use Rattle.memory.specs.Calls.{memory, value-of};
 ghost use Rattle.host.specs.Entries.{ReadsProgram, WritesProgram, Translates, RunsSource};
-ghost use Rattle.host.specs.Entries.{ReadsWord, WritesWord, RunsOn, lent, stands-at};
+ghost use Rattle.host.specs.Entries.{ReadsWord, WritesWord, RunsOn, stands-at, Reports, report-made};
 
 // The version of these entries.
 #[no_mangle]
 pub extern "C" fn mudzkvopi_version() -> u32
-    ensures { λ r. ⌜ r ≡ 4 ⌝ }
+    ensures { λ r. ⌜ r ≡ 5 ⌝ }
 {
-    4
+    5
 }
 
 // A text read into a lent list of three numbers a command: rules 1 to 8 under a setting, then 19.
@@ -59,7 +59,7 @@ pub extern "C" fn mudzkvopi_translate_list(
     packing::translated(translation::translate_list(setting, packing::form(form), list, &mut *word))
 }
 
-// A program handed in as text, run from a state of 51 numbers: rules 1 to 8 under a setting, then 9.
+// A program handed in as text, run from a state of 82 numbers: rules 1 to 8 under a setting, then 9.
 #[no_mangle]
 pub extern "C" fn mudzkvopi_run_source(
     setting: u32,
@@ -104,11 +104,10 @@ pub extern "C" fn mudzkvopi_write_word(kinds: &[u8], operands: &[u32], word: &mu
     packing::word_written(table::write(kinds, operands, &mut *word))
 }
 
-// A word run on a lent machine, from a lent place and count of steps: rule 10, then 11 to 15.
+// A word run on a lent machine, of as many registers as capacities, from a lent place and count of steps: rule 10, then 11 to 15.
 #[no_mangle]
 pub extern "C" fn mudzkvopi_run_word(
-    registers: u32,
-    capacity: u32,
+    capacities: &[u16],
     store: &mut [u8],
     lengths: &mut [u16],
     place: &mut i32,
@@ -116,19 +115,15 @@ pub extern "C" fn mudzkvopi_run_word(
     word: &[u8],
     budget: u32,
 ) -> u64
-    ensures { λ r. ⌜ RunsOn (lent registers capacity (now (store .entry)) (now (lengths .entry)))
-        (stands-at (now (place .entry)) (now (steps .entry))) (read-word-for registers (now (word .entry))) budget
+    ensures { λ r. ⌜ RunsOn (memory (now (capacities .entry)) (now (store .entry)) (now (lengths .entry)))
+        (stands-at (now (place .entry)) (now (steps .entry))) (read-word-for (length (now (capacities .entry))) (now (word .entry))) budget
         r (now (store .exit)) (now (lengths .exit)) (stands-at (now (place .exit)) (now (steps .exit))) ⌝ }
 {
-    let m = Machine {
-        registers: registers as usize,
-        capacity: capacity as usize,
-    };
     let at = Position {
         place: *place,
         steps: *steps,
     };
-    let run = machine::run_word(m, &mut *store, &mut *lengths, at, word, budget);
+    let run = machine::run_word(capacities, &mut *store, &mut *lengths, at, word, budget);
     let there = run.position.place;
     let ended = run.ended;
     *place = there;
@@ -139,8 +134,7 @@ pub extern "C" fn mudzkvopi_run_word(
 // Kinds and operands run so: rule 10, then 11, 13, 14 and 15 as for tables.
 #[no_mangle]
 pub extern "C" fn mudzkvopi_run_table(
-    registers: u32,
-    capacity: u32,
+    capacities: &[u16],
     store: &mut [u8],
     lengths: &mut [u16],
     place: &mut i32,
@@ -149,20 +143,24 @@ pub extern "C" fn mudzkvopi_run_table(
     operands: &[u32],
     budget: u32,
 ) -> u64
-    ensures { λ r. ⌜ RunsOn (lent registers capacity (now (store .entry)) (now (lengths .entry)))
+    ensures { λ r. ⌜ RunsOn (memory (now (capacities .entry)) (now (store .entry)) (now (lengths .entry)))
         (stands-at (now (place .entry)) (now (steps .entry)))
-        (read-table-for registers (zipped (now (kinds .entry)) (now (operands .entry)))) budget
+        (read-table-for (length (now (capacities .entry))) (zipped (now (kinds .entry)) (now (operands .entry)))) budget
         r (now (store .exit)) (now (lengths .exit)) (stands-at (now (place .exit)) (now (steps .exit))) ⌝ }
 {
-    let m = Machine {
-        registers: registers as usize,
-        capacity: capacity as usize,
-    };
     let at = Position {
         place: *place,
         steps: *steps,
     };
-    let ran = engine::run_numbers(m, &mut *store, &mut *lengths, at, kinds, operands, budget);
+    let ran = engine::run_numbers(
+        capacities,
+        &mut *store,
+        &mut *lengths,
+        at,
+        kinds,
+        operands,
+        budget,
+    );
     let there = ran.position.place;
     let ended = ran.ended;
     *place = there;
@@ -172,17 +170,32 @@ pub extern "C" fn mudzkvopi_run_table(
 
 // The value that a lent machine's registers have: rule 10.
 #[no_mangle]
-pub extern "C" fn mudzkvopi_value(
-    registers: u32,
-    capacity: u32,
-    store: &[u8],
-    lengths: &[u16],
-) -> u64
-    ensures { λ r. ⌜ r ≡ packed symbols (value-of (lent registers capacity (now (store .entry)) (now (lengths .entry)))) ⌝ }
+pub extern "C" fn mudzkvopi_value(capacities: &[u16], store: &[u8], lengths: &[u16]) -> u64
+    ensures { λ r. ⌜ r ≡ packed symbols (value-of (memory (now (capacities .entry)) (now (store .entry)) (now (lengths .entry)))) ⌝ }
 {
-    let m = Machine {
-        registers: registers as usize,
-        capacity: capacity as usize,
-    };
-    packing::value_read(memory::value(m, store, lengths))
+    packing::value_read(memory::value(capacities, store, lengths))
+}
+
+// A report, by its bytes.
+fn report_made(made: report::Reported) -> u64
+    ensures { λ r. ⌜ r ≡ report-made made ⌝ }
+{
+    match made {
+        report::Reported::Done(bytes) => packing::pack(0, 0, bytes),
+        report::Reported::Refused(r) => packing::refused(r),
+    }
+}
+
+// The run tool's text of a program and a sheet, on registers of the capacities lent: 19 alone. A program, capacities or a sheet that are
+// turned down make a text of one line.
+#[no_mangle]
+pub extern "C" fn mudzkvopi_report_on(
+    text: &[u8],
+    sheet: &[u8],
+    capacities: &[u16],
+    out: &mut [u8],
+) -> u64
+    ensures { λ r. ⌜ Reports (now (text .entry)) (now (sheet .entry)) (now (capacities .entry)) (now (out .entry)) r (now (out .exit)) ⌝ }
+{
+    report_made(report::report_on(text, sheet, capacities, &mut *out))
 }

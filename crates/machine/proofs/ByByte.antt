@@ -6,7 +6,7 @@ use mathlib.Core.List.{List}
 use Prim.Native.Nat.{ℕ}
 use lib.ListN.{take}
 use Rattle.theory.specs.Word.{Entry}
-use Rattle.theory.specs.Machines.{Memory, is-memory}
+use Rattle.theory.specs.Machines.{Memory, count, is-memory}
 use Rattle.theory.specs.TurnedDown.{done, refused, rule-10, table-fault, total, for-machine}
 use Rattle.memory.specs.declared.answers.Position.{Position}
 use Rattle.memory.specs.declared.answers.Ended.{Ended}
@@ -37,18 +37,18 @@ module _ (registers : ℕ) (t : List Entry) where
   word-passes h = rw (no-rule-15 registers t h)
 
 pub word-by-table : (m : Memory) (p : Position) (budget : ℕ) (t : List Entry) → table-fault t ≡ none
-    → called-by-byte t (table-called m p budget t) ≡ called m p budget (for-machine m (word-for (m .count) t))
+    → called-by-byte t (table-called m p budget t) ≡ called m p budget (for-machine m (word-for (count m) t))
 unfolding rule-10
-word-by-table m p budget t f = go (is-memory m) refl (first-lacking (m .count) t) refl
+word-by-table m p budget t f = go (is-memory m) refl (first-lacking (count m) t) refl
   where
-    go : (b : Bool) → is-memory m ≡ b → (o : Option ℕ) → first-lacking (m .count) t ≡ o
-        → called-by-byte t (table-called m p budget t) ≡ called m p budget (for-machine m (word-for (m .count) t))
+    go : (b : Bool) → is-memory m ≡ b → (o : Option ℕ) → first-lacking (count m) t ≡ o
+        → called-by-byte t (table-called m p budget t) ≡ called m p budget (for-machine m (word-for (count m) t))
     go false h o e = rw (no-memory m p budget t h, h)
-    go true h none e = rw (table-read m p budget t h f, table-passes (m .count) t e, word-passes (m .count) t e, h)
-    go true h (some i) e = rw (table-read m p budget t h f, table-lacks (m .count) t i e, word-lacks (m .count) t i e, h)
+    go true h none e = rw (table-read m p budget t h f, table-passes (count m) t e, word-passes (count m) t e, h)
+    go true h (some i) e = rw (table-read m p budget t h f, table-lacks (count m) t i e, word-lacks (count m) t i e, h)
 
 -- What the run of a table handed back, its end told as that of the word
 pub ran-by-table : (m : Memory) (p : Position) (budget : ℕ) (t : List Entry) → table-fault t ≡ none → (run : Run) (store lengths : List ℕ)
     → handed run store lengths ≡ table-called m p budget t → (e : Ended) → run .ended ≡ e
-    → handed (moved-to (run .position) (ended-by-byte t e)) store lengths ≡ called m p budget (for-machine m (word-for (m .count) t))
+    → handed (moved-to (run .position) (ended-by-byte t e)) store lengths ≡ called m p budget (for-machine m (word-for (count m) t))
 ran-by-table m p budget t f run store lengths h e q = rw (← q) (ap (called-by-byte t) h ∙ word-by-table m p budget t f)

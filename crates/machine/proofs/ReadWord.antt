@@ -11,7 +11,7 @@ use lib.Seq.{take-at}
 use Rattle.theory.specs.Text.{Bytes}
 use Rattle.theory.specs.Basics.{or-else}
 use Rattle.theory.specs.Word.{Entry, byte-of, bytes-of, spell-entries}
-use Rattle.theory.specs.Machines.{Memory}
+use Rattle.theory.specs.Machines.{Memory, count}
 use Rattle.theory.specs.TurnedDown.{done, answer, after, total, word-fault, word-entries, read-word, read-word-into, entries-fault}
 use Rattle.theory.specs.TurnedDown.{rule-11, rule-12, rule-13, rule-14, rule-19, read-word-for, lent-after}
 use Rattle.theory.specs.TurnedDown.{entry-fault, next-byte, for-machine}
@@ -139,10 +139,10 @@ module _ (m : Memory) (p : Position) (budget : ℕ) (w : Bytes) where
   word-refused r f = rw f (refused-run m p budget r)
 
   pub word-read : word-fault w ≡ none
-      → word-called m p budget w ≡ called m p budget (for-machine m (word-for (m .count) (word-entries w)))
+      → word-called m p budget w ≡ called m p budget (for-machine m (word-for (count m) (word-entries w)))
   unfolding word-called read-word-for word-for
   word-read f = rw f
 
   pub word-ran : {n : ℕ} {kinds operands : List ℕ} → Got w n kinds operands → {c : Called}
-      → c ≡ called m p budget (for-machine m (word-for (m .count) (zipped (take n kinds) (take n operands)))) → c ≡ word-called m p budget w
+      → c ≡ called m p budget (for-machine m (word-for (count m) (zipped (take n kinds) (take n operands)))) → c ≡ word-called m p budget w
   word-ran got h = h ∙ rw (got .table) (sym (word-read (got .passes)))

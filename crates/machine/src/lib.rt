@@ -8,7 +8,6 @@ ghost use Rattle.word.specs.Answers.{zipped};
 ghost use Rattle.memory.specs.Calls.{memory, handed, called, word-called, moved-to};
 ghost use Rattle.machine.specs.ByByte.{word-for, by-byte, Paired};
 use memory::Ended;
-use memory::Machine;
 use memory::Position;
 use memory::Run;
 use precedence::turned_down;
@@ -51,7 +50,7 @@ fn by_byte(r: Refusal, kinds: &[u8], operands: &[u32]) -> Refusal
 
 // Runs a word's instructions, which rules 11 to 14 let pass: rule 10, then 15, whose place is a byte.
 fn run_instructions(
-    m: Machine,
+    capacities: &[u16],
     store: &mut [u8],
     lengths: &mut [u16],
     at: Position,
@@ -61,11 +60,11 @@ fn run_instructions(
 ) -> Run
     requires { ⌜ table-fault (zipped (now kinds) (now operands)) ≡ none ⌝ }
     ensures { λ r. ⌜ handed r (now (store .exit)) (now (lengths .exit))
-        ≡ called (memory m (now (store .entry)) (now (lengths .entry))) at budget
-        (for-machine (memory m (now (store .entry)) (now (lengths .entry)))
-        (word-for (m .registers) (zipped (now (kinds .entry)) (now (operands .entry))))) ⌝ }
+        ≡ called (memory (now (capacities .entry)) (now (store .entry)) (now (lengths .entry))) at budget
+        (for-machine (memory (now (capacities .entry)) (now (store .entry)) (now (lengths .entry)))
+        (word-for (length (now (capacities .entry))) (zipped (now (kinds .entry)) (now (operands .entry))))) ⌝ }
 {
-    let run = engine::run_numbers(m, store, lengths, at, kinds, operands, budget);
+    let run = engine::run_numbers(capacities, store, lengths, at, kinds, operands, budget);
     let position = run.position;
     let ended = run.ended;
     match ended {
@@ -79,7 +78,7 @@ fn run_instructions(
 
 // Runs a word on a machine: rules 10, then 11 to 15.
 pub fn run_word(
-    m: Machine,
+    capacities: &[u16],
     store: &mut [u8],
     lengths: &mut [u16],
     at: Position,
@@ -87,13 +86,13 @@ pub fn run_word(
     budget: u32,
 ) -> Run
     ensures { λ r. ⌜ handed r (now (store .exit)) (now (lengths .exit))
-        ≡ word-called (memory m (now (store .entry)) (now (lengths .entry))) at budget (now (word .entry)) ⌝ }
+        ≡ word-called (memory (now (capacities .entry)) (now (store .entry)) (now (lengths .entry))) at budget (now (word .entry)) ⌝ }
 {
     let mut kinds = [0u8; Instruction::INSTRUCTIONS];
     let mut operands = [0u32; Instruction::INSTRUCTIONS];
     match word::read(word, &mut kinds, &mut operands) {
         Read::Done(count) => run_instructions(
-            m,
+            capacities,
             store,
             lengths,
             at,
@@ -101,7 +100,7 @@ pub fn run_word(
             &operands[..count],
             budget,
         ),
-        Read::Refused(r) => turned_down(m, store, lengths, at, r),
+        Read::Refused(r) => turned_down(capacities, store, lengths, at, r),
     }
 }
 
@@ -120,16 +119,17 @@ fn ended_of(r: Run) -> Ended
 
 // One step of a word, a run of budget 1, which moves the lent record.
 pub fn step(
-    m: Machine,
+    capacities: &[u16],
     store: &mut [u8],
     lengths: &mut [u16],
     at: &mut Position,
     word: &[u8],
 ) -> Ended
     ensures { λ r. ⌜ handed (moved-to (now (at .exit)) r) (now (store .exit)) (now (lengths .exit))
-        ≡ word-called (memory m (now (store .entry)) (now (lengths .entry))) (now (at .entry)) 1 (now (word .entry)) ⌝ }
+        ≡ word-called (memory (now (capacities .entry)) (now (store .entry)) (now (lengths .entry))) (now (at .entry)) 1
+        (now (word .entry)) ⌝ }
 {
-    let r = run_word(m, store, lengths, *at, word, 1);
+    let r = run_word(capacities, store, lengths, *at, word, 1);
     *at = position_of(r);
     ended_of(r)
 }

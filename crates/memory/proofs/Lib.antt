@@ -1,3 +1,4 @@
+pub mod OffsetTable
 pub mod Places
 pub mod Rule10
 pub mod Rest

@@ -3,19 +3,18 @@ use mathlib.Core.Path.{_≡_, sym, ap, _∙_}
 use mathlib.Core.Bool.{true, false}
 use mathlib.Core.List.{List}
 use Prim.Native.Nat.{ℕ, suc, _+_, _-_, _≤_, _<_}
-use native.Mathlib.Nat.{zero-mul}
 use native.Mathlib.Omega.{arith}
 use borrow.Author.Tests.{leb-true}
 use lib.Dec.{eqb, leb}
-use lib.ListN.{length, take, drop, getD}
+use lib.ListN.{length, take, getD}
 use lib.Seq.{take-take}
 use Rattle.theory.specs.Basics.{all-below}
 use Rattle.theory.specs.Text.{Bytes}
 use Rattle.theory.specs.Word.{Symbol, bytes-of}
-use Rattle.theory.specs.Machines.{Memory, contents, laid, is-memory, offset, place-of, is-tidy}
+use Rattle.theory.specs.Machines.{Memory, count, contents, laid, is-memory, place-of, is-tidy}
 use Rattle.theory.specs.TurnedDown.{rule-10}
 use Rattle.theory.proofs.Faults.{and-first}
-use Rattle.theory.proofs.GoodMemory.{Good, memory-is-good, length-contents, contents-laid, contents-fit, take-laid, offset-suc}
+use Rattle.theory.proofs.GoodMemory.{Good, memory-is-good, length-contents, contents-laid, contents-fit, take-laid}
 use Rattle.theory.proofs.Values.{all-below-same}
 use Rattle.memory.specs.declared.answers.Value.{Value}
 use Rattle.memory.specs.declared.answers.Value.the-variants as Value
@@ -30,8 +29,8 @@ module _ (m : Memory) (h : is-memory m ≡ true) where
   abbrev g : Good m
   g = memory-is-good m h
 
-  some-register : 0 < m .count
-  some-register = leb-true 1 (m .count) (and-first (leb 1 (m .count)) (leb (m .count) 64) (g .registers))
+  some-register : 0 < count m
+  some-register = leb-true 1 (count m) (and-first (leb 1 (count m)) (leb (count m) 64) (g .registers))
 
   pub first-length : 0 < length (m .lengths)
   first-length = omega (arith, some-register, g .lengths)
@@ -42,17 +41,18 @@ module _ (m : Memory) (h : is-memory m ≡ true) where
   value-bytes : take (length (contents m 1)) (m .store) ≡ bytes-of (contents m 1)
   value-bytes = go (contents m 1) (contents-fit m g 0 some-register) (contents-laid m g 0 some-register)
     where
-      go : (xs : List Symbol) → length xs ≤ m .capacity → laid (m .capacity) xs ≡ place-of m 1 → take (length xs) (m .store) ≡ bytes-of xs
-      go xs fits e =
-          let start : offset (m .capacity) 1 ≡ 0 = offset-suc (m .capacity) 0 ∙ zero-mul (m .capacity) in
-          let place : place-of m 1 ≡ take (m .capacity) (m .store) = ap (λ (k : ℕ). take (m .capacity) (drop k (m .store))) start in
-          sym (take-take (length xs) (m .capacity) (m .store) fits)
-          ∙ ap (λ (b : Bytes). take (length xs) b) (sym (e ∙ place))
-          ∙ take-laid (m .capacity) xs
+      capacity : ℕ
+      capacity = getD (m .capacities) 0 0
 
-  tidy-by-lengths : is-tidy (m .count) (contents m) ≡ rest-empty (m .lengths)
+      go : (xs : List Symbol) → length xs ≤ capacity → laid capacity xs ≡ place-of m 1 → take (length xs) (m .store) ≡ bytes-of xs
+      go xs fits e =
+          sym (take-take (length xs) capacity (m .store) fits)
+          ∙ ap (λ (b : Bytes). take (length xs) b) (sym e)
+          ∙ take-laid capacity xs
+
+  tidy-by-lengths : is-tidy (count m) (contents m) ≡ rest-empty (m .lengths)
   tidy-by-lengths =
-      all-below-same (m .count - 1) (λ i. eqb (length (contents m (i + 2))) 0) (λ i. eqb (getD (m .lengths) (i + 1) 0) 0)
+      all-below-same (count m - 1) (λ i. eqb (length (contents m (i + 2))) 0) (λ i. eqb (getD (m .lengths) (i + 1) 0) 0)
       (λ i l. let two : i + 2 ≡ suc (i + 1) = omega arith in
       ap (λ r. eqb (length (contents m r)) 0) two ∙ ap (λ n. eqb n 0) (length-contents m g (i + 1) (omega arith)))
       ∙ ap (λ n. all-below (n - 1) (λ i. eqb (getD (m .lengths) (i + 1) 0) 0)) (sym (g .lengths))

@@ -3,9 +3,9 @@ use mathlib.Core.Path.{_≡_, refl, sym, ap, _∙_}
 use mathlib.Core.Option.{Option, some}
 use Prim.Native.Nat.{ℕ}
 use native.Mathlib.Omega.{arith}
-use Rattle.theory.specs.Runs.{Machine, run, within}
+use Rattle.theory.specs.Runs.{Machine, run, within-each}
 use Rattle.theory.specs.Word as W
-use Rattle.theory.specs.Machines.{contents, refilled, run-word, word-state, Value, word-value}
+use Rattle.theory.specs.Machines.{count, capacity-of, contents, refilled, run-word, word-state, Value, word-value}
 use Rattle.theory.specs.declared.End.{End}
 use Rattle.theory.specs.declared.End.the-variants.{Halted, Spent, Full}
 use Rattle.theory.proofs.Budgets.{run-induction}
@@ -28,12 +28,12 @@ ends-halted {S} M = run-induction M (λ b n s o. o .end ≡ Halted → M .ended 
 pub halted-value : HaltedValue
 unfolding word-value run-word
 halted-value w m p budget good lows names t =
-    let o = run (W.machine (within (m .capacity)) w) budget (p .steps) (word-state m p) in
-    let at-end = ends-halted (W.machine (within (m .capacity)) w) budget (p .steps) (word-state m p) t in
+    let o = run (W.machine (within-each (capacity-of (m .capacities))) w) budget (p .steps) (word-state m p) in
+    let at-end = ends-halted (W.machine (within-each (capacity-of (m .capacities))) w) budget (p .steps) (word-state m p) t in
     let held = memory-stays-good w m p budget good lows names .1 in
-    rw at-end (ap {B = Option Value} some (value-same (m .count) (o .state .registers) (contents (refilled m (o .state .registers)))
+    rw at-end (ap {B = Option Value} some (value-same (count m) (o .state .registers) (contents (refilled m (o .state .registers)))
     (λ r l. sym (held r l))))
 
 pub value-on-a-set : ValueOnASet
 value-on-a-set m xs good =
-    (value-held (m .count) (contents m) xs (contents-beyond m (memory-is-good m good)), has-value (m .count) (contents m) xs)
+    (value-held (count m) (contents m) xs (contents-beyond m (memory-is-good m good)), has-value (count m) (contents m) xs)

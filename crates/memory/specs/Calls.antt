@@ -9,13 +9,12 @@ use Rattle.theory.specs.Runs.{Outcome}
 use Rattle.theory.specs.Word as W
 use Rattle.theory.specs.Word.{Entry, bytes-of}
 use Rattle.theory.specs.Machines as M
-use Rattle.theory.specs.Machines.{Memory, contents, refilled, is-memory, run-word, value-at}
+use Rattle.theory.specs.Machines.{Memory, count, contents, refilled, is-memory, run-word, value-at}
 use Rattle.theory.specs.TurnedDown.{Answer, done, refused, answer, run-on}
 use Rattle.theory.specs.TurnedDown.{mapped, rule-10, instructions}
 use Rattle.theory.specs.TurnedDown.{read-word-for, read-table-for}
 use Rattle.theory.specs.declared.End.the-variants as End
 use Rattle.theory.specs.declared.Refusal.{Refusal}
-use Rattle.memory.specs.declared.answers.Machine.{Machine}
 use Rattle.memory.specs.declared.answers.Position.{Position}
 use Rattle.memory.specs.declared.answers.Ended.{Ended}
 use Rattle.memory.specs.declared.answers.Ended.the-variants as Ended
@@ -24,8 +23,8 @@ use Rattle.memory.specs.declared.answers.Value.{Value}
 use Rattle.memory.specs.declared.answers.Value.the-variants as Value
 
 -- The memory that a call is lent
-abbrev pub memory : Machine → Bytes → List ℕ → Memory
-memory m store lengths = record { count = m .registers; capacity = m .capacity; store = store; lengths = lengths }
+abbrev pub memory : List ℕ → Bytes → List ℕ → Memory
+memory capacities store lengths = record { capacities = capacities; store = store; lengths = lengths }
 
 abbrev pub position : Position → M.Position
 position p = record { place = p .place; steps = p .steps }
@@ -79,15 +78,15 @@ after-10 m r = cond (is-memory m) r (record { number = 10; place = 0 })
 
 -- A run of a word: rule 10, then 11 to 15
 unfoldable pub word-called : Memory → Position → ℕ → Bytes → Called
-word-called m p budget word = answered m p (run-on m (position p) budget (read-word-for (m .count) word))
+word-called m p budget word = answered m p (run-on m (position p) budget (read-word-for (count m) word))
 
 -- A run of a table: rule 10, then 11, 13, 14 and 15 as for tables
 unfoldable pub table-called : Memory → Position → ℕ → List Entry → Called
-table-called m p budget t = answered m p (run-on m (position p) budget (read-table-for (m .count) t))
+table-called m p budget t = answered m p (run-on m (position p) budget (read-table-for (count m) t))
 
 -- The value of a halted word: rule 10, and then by what the registers hold. Nothing is told of the place
 abbrev pub value-of : Memory → Answer M.Value
-value-of m = mapped (λ n. value-at (n .count) (contents n)) (answer (rule-10 m) m)
+value-of m = mapped (λ n. value-at (count n) (contents n)) (answer (rule-10 m) m)
 
 abbrev pub value-answer : Answer M.Value → Value
 value-answer (done (M.valued xs)) = Value.Length (length xs)

@@ -5,10 +5,10 @@ use mathlib.Core.List.{List}
 use Prim.Native.Nat.{ℕ}
 use lib.Dec.{leb}
 use lib.ListN.{length, getD}
-use Rattle.theory.specs.Basics.{all}
+use Rattle.theory.specs.Basics.{all-below}
 use Rattle.theory.specs.Text.{Bytes}
 use Rattle.theory.specs.Word.{Symbol}
-use Rattle.theory.specs.Machines.{Memory, holding, is-sized, refilled}
+use Rattle.theory.specs.Machines.{Memory, count, holding, is-sized, refilled}
 use Rattle.theory.specs.TurnedDown.{Answer, done, refused, answer, unless}
 use Rattle.memory.specs.declared.answers.Laid.{Laid}
 use Rattle.memory.specs.declared.answers.Laid.the-variants as Laid
@@ -17,9 +17,13 @@ use Rattle.memory.specs.declared.answers.Laid.the-variants as Laid
 abbrev pub fresh-registers : List ℕ → ℕ → List Symbol
 fresh-registers values = holding (length values) (λ i. getD values i 0)
 
+-- Each value has a capacity that it is within
+unfoldable pub values-within : List ℕ → List ℕ → Bool
+values-within capacities values = all-below (length values) λ i. leb (getD values i 0) (getD capacities i 0)
+
 -- The sizes are rule 10's, and each value has a register that can hold it
 unfoldable pub can-hold : Memory → List ℕ → Bool
-can-hold m values = is-sized m && leb (length values) (m .count) && all (λ v. leb v (m .capacity)) values
+can-hold m values = is-sized m && leb (length values) (count m) && values-within (m .capacities) values
 
 unfoldable pub fresh-memory : Memory → List ℕ → Answer Memory
 fresh-memory m values = answer (unless (can-hold m values) 10 0) (refilled m (fresh-registers values))

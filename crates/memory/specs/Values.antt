@@ -7,18 +7,19 @@ use mathlib.Core.List.{List}
 use Prim.Native.Nat.{ℕ, _≤_}
 use Rattle.theory.specs.Basics.{EachOf}
 use Rattle.theory.specs.Word.{Symbol, Instruction, operand}
-use Rattle.theory.specs.Machines.{Memory, Position, contents, refilled, is-memory, run-word, valued, HasValue, value-at, word-value}
+use Rattle.theory.specs.Machines.{Memory, count, Position, contents, refilled, is-memory, run-word}
+use Rattle.theory.specs.Machines.{valued, HasValue, value-at, word-value}
 use Rattle.theory.specs.Claims.{NamesAtMost}
 use Rattle.theory.specs.declared.End.the-variants.{Halted}
 
 -- Where a run of a word that its machine can do ended as halted, the word's value is the one of the memory handed back, which `value` reads
 abbrev pub HaltedValue : Type 0
 HaltedValue = (w : List Instruction) (m : Memory) (p : Position) (budget : ℕ) → is-memory m ≡ true → EachOf (λ i. 1 ≤ operand i) w
-    → EachOf (NamesAtMost (m .count)) w → run-word w m p budget .end ≡ Halted
+    → EachOf (NamesAtMost (count m)) w → run-word w m p budget .end ≡ Halted
     → let o = run-word w m p budget in
-    word-value w (m .count) (o .state) ≡ some (value-at (m .count) (contents (refilled m (o .state .registers))))
+    word-value w (count m) (o .state) ≡ some (value-at (count m) (contents (refilled m (o .state .registers))))
 
 -- The test of a machine's registers is the paper's condition, on a machine that has no other registers
 abbrev pub ValueOnASet : Type 0
 ValueOnASet =
-    (m : Memory) (xs : List Symbol) → is-memory m ≡ true → (value-at (m .count) (contents m) ≡ valued xs) ↔ HasValue (contents m) xs
+    (m : Memory) (xs : List Symbol) → is-memory m ≡ true → (value-at (count m) (contents m) ≡ valued xs) ↔ HasValue (contents m) xs

@@ -25,30 +25,31 @@ impl Position {
     }
 }
 
-// A machine of the set: how many registers it has, and how many symbols each may hold.
-pub struct Machine {
-    pub registers: usize,
-    pub capacity: usize,
-}
+// A machine of the set is lent as three lists: each register's capacity, the store, and the lengths. This name carries its limits and its
+// fresh registers.
+pub struct Machine {}
 
 impl Machine {
     pub const REGISTERS: usize = 64;
+
+    // Where a place begins, for as many registers, and where the last one ends.
+    pub const OFFSETS: usize = 65;
 
     pub const CAPACITY: usize = 1024;
 
     // A fresh word's registers, laid out in a lent store and lengths: register i + 1 holds as many 1s as value i, and every other register
     // is empty. Rule 10 where the sizes are not the machine's, or a value has no register that can hold it.
-    pub fn fresh(m: Machine, store: &mut [u8], lengths: &mut [u16], values: &[u32]) -> Laid
-        ensures { λ r. ⌜ LaysFresh (memory m (now (store .entry)) (now (lengths .entry))) (now (values .entry))
+    pub fn fresh(capacities: &[u16], store: &mut [u8], lengths: &mut [u16], values: &[u32]) -> Laid
+        ensures { λ r. ⌜ LaysFresh (memory (now (capacities .entry)) (now (store .entry)) (now (lengths .entry))) (now (values .entry))
             r (now (store .exit)) (now (lengths .exit)) ⌝ }
     {
-        if !fits(m, &*store, &*lengths, values) {
+        if !fits(capacities, &*store, &*lengths, values) {
             return Laid::Refused(Refusal {
                 number: 10,
                 place: 0,
             });
         }
-        fill(store, lengths, m.capacity, values);
+        fill(capacities, store, lengths, values);
         Laid::Done
     }
 }

@@ -1,15 +1,14 @@
 // The registers of a fresh word: whether a lent memory can hold them, and their layout.
 ghost use mathlib.Core.Path.{_≡_};
 ghost use Prim.Native.Nat.{ℕ, _≤_};
-ghost use lib.Dec.{leb};
 ghost use lib.ListN.{length, getD};
-ghost use Rattle.theory.specs.Basics.{all};
 ghost use Rattle.theory.specs.Machines.{ones, laid};
 ghost use Rattle.memory.specs.Held.{Sized, Held};
 ghost use Rattle.memory.specs.Calls.{memory};
-ghost use Rattle.memory.specs.Fresh.{fresh-registers, can-hold};
-use crate::answers::Machine;
+ghost use Rattle.memory.specs.Fresh.{fresh-registers, values-within, can-hold};
+use crate::checks::capacity_at;
 use crate::checks::is_sized;
+use crate::checks::offsets;
 use output::write_runs;
 
 fn wide(x: u32) -> usize
@@ -18,13 +17,13 @@ fn wide(x: u32) -> usize
     x as usize
 }
 
-// Whether each value is within the capacity.
-fn all_within(values: &[u32], capacity: usize) -> bool
-    ensures { λ r. ⌜ r ≡ all (λ v. leb v capacity) (now (values .entry)) ⌝ }
+// Whether each value is within the capacity of its register.
+fn all_within(capacities: &[u16], values: &[u32]) -> bool
+    ensures { λ r. ⌜ r ≡ values-within (now (capacities .entry)) (now (values .entry)) ⌝ }
 {
     let mut i: usize = 0;
     while i < values.len() {
-        if capacity < wide(values[i]) {
+        if capacity_at(capacities, i) < wide(values[i]) {
             return false;
         }
         i += 1;
@@ -33,16 +32,16 @@ fn all_within(values: &[u32], capacity: usize) -> bool
 }
 
 // Whether a lent memory has a register for each value that can hold it.
-pub fn fits(m: Machine, store: &[u8], lengths: &[u16], values: &[u32]) -> bool
-    ensures { λ r. ⌜ r ≡ can-hold (memory m (now (store .entry)) (now (lengths .entry))) (now (values .entry)) ⌝ }
+pub fn fits(capacities: &[u16], store: &[u8], lengths: &[u16], values: &[u32]) -> bool
+    ensures { λ r. ⌜ r ≡ can-hold (memory (now (capacities .entry)) (now (store .entry)) (now (lengths .entry))) (now (values .entry)) ⌝ }
 {
-    if !is_sized(m, store, lengths) {
+    if !is_sized(capacities, store, lengths) {
         return false;
     }
-    if m.registers < values.len() {
+    if capacities.len() < values.len() {
         return false;
     }
-    all_within(values, m.capacity)
+    all_within(capacities, values)
 }
 
 // Lays n ones down in a place, and byte 0 after them.
@@ -62,15 +61,16 @@ fn held(values: &[u32], i: usize) -> usize
 }
 
 // Fills every register's place, and the lengths.
-pub fn fill(store: &mut [u8], lengths: &mut [u16], capacity: usize, values: &[u32])
-    requires { ⌜ Sized capacity (now store) (now lengths) × ((i : ℕ) → getD (now values) i 0 ≤ capacity) ⌝ }
-    ensures { λ _. ⌜ Held capacity (fresh-registers (now (values .entry))) (now (store .exit)) (now (lengths .exit)) ⌝ }
+pub fn fill(capacities: &[u16], store: &mut [u8], lengths: &mut [u16], values: &[u32])
+    requires { ⌜ Sized (now capacities) (now store) (now lengths) × ((i : ℕ) → getD (now values) i 0 ≤ getD (now capacities) i 0) ⌝ }
+    ensures { λ _. ⌜ Held (now (capacities .entry)) (fresh-registers (now (values .entry))) (now (store .exit)) (now (lengths .exit)) ⌝ }
 {
+    let places = offsets(capacities);
     let mut i = 0;
     while i < lengths.len() {
         let n = held(values, i);
-        let from = i * capacity;
-        let to = from + capacity;
+        let from = places[i];
+        let to = places[i + 1];
         lay(&mut store[from..to], n);
         lengths[i] = n as u16;
         i += 1;

@@ -9,7 +9,10 @@ pub use answers::Machine;
 pub use answers::Position;
 pub use answers::Run;
 pub use answers::Value;
+pub use checks::are_limited;
+pub use checks::capacity_at;
 pub use checks::is_memory;
+pub use checks::offsets;
 ghost use mathlib.Core.Path.{_≡_};
 ghost use Rattle.memory.specs.Calls.{memory, Valued};
 ghost use Rattle.memory.specs.Held.{rest-empty};
@@ -31,10 +34,10 @@ fn is_tidy(lengths: &[u16]) -> bool
 }
 
 // The value of a halted word: rule 10, and register 1 where every other register is empty.
-pub fn value(m: Machine, store: &[u8], lengths: &[u16]) -> Value
-    ensures { λ r. ⌜ Valued (memory m (now (store .entry)) (now (lengths .entry))) r ⌝ }
+pub fn value(capacities: &[u16], store: &[u8], lengths: &[u16]) -> Value
+    ensures { λ r. ⌜ Valued (memory (now (capacities .entry)) (now (store .entry)) (now (lengths .entry))) r ⌝ }
 {
-    if !is_memory(m, store, lengths) {
+    if !is_memory(capacities, store, lengths) {
         return Value::Refused(Refusal {
             number: 10,
             place: 0,

@@ -3,7 +3,7 @@ use mathlib.Core.Bool.{cond}
 use mathlib.Core.List.{List, [], _∷_, _++_}
 use Prim.Native.Nat.{ℕ}
 use lib.Dec.{leb}
-use lib.ListN.{take, drop}
+use lib.ListN.{length, take, drop}
 use Rattle.theory.specs.Text.{Bytes}
 use Rattle.theory.specs.Limits.{most-capacity}
 
@@ -11,11 +11,13 @@ use Rattle.theory.specs.Limits.{most-capacity}
 abbrev pub from-start : ℕ → Bytes → Bytes
 from-start start ring = drop start ring ++ take start ring
 
--- The places of a store, of so many bytes each, as many as there are starts. What stands past them stays as it is
-unfoldable pub in-order : ℕ → List ℕ → Bytes → Bytes
-in-order capacity [] store = store
-in-order capacity (s ∷ starts) store = from-start s (take capacity store) ++ in-order capacity starts (drop capacity store)
+-- A ring of more bytes than any machine's place stays as it is
+unfoldable pub turned : ℕ → Bytes → Bytes
+turned start ring = cond (leb (length ring) most-capacity) (from-start start ring) ring
 
--- A store whose places have more bytes than any machine's stays as it is
-unfoldable pub put-in-order : ℕ → List ℕ → Bytes → Bytes
-put-in-order capacity starts store = cond (leb capacity most-capacity) (in-order capacity starts store) store
+-- The places of a store, each of as many bytes as its capacity, as many as there are both capacities and starts. What stands past them
+-- stays as it is
+unfoldable pub in-order : List ℕ → List ℕ → Bytes → Bytes
+in-order [] starts store = store
+in-order (c ∷ capacities) [] store = store
+in-order (c ∷ capacities) (s ∷ starts) store = turned s (take c store) ++ in-order capacities starts (drop c store)

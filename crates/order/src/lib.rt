@@ -1,11 +1,16 @@
 // Registers put in order at the end of a run, inside which each one's symbols lie in a ring: they begin at the first byte of its place
 // again.
 ghost use mathlib.Core.Path.{_≡_};
-ghost use Prim.Native.Nat.{_≤_, min};
-ghost use lib.ListN.{length};
-ghost use Rattle.order.specs.Order.{from-start, put-in-order};
+ghost use Prim.Native.Nat.{min};
+ghost use Rattle.order.specs.Order.{turned, in-order};
 use memory::Machine;
 use output::put_bytes;
+
+fn wide(x: u16) -> usize
+    ensures { λ r. ⌜ r ≡ x ⌝ }
+{
+    x as usize
+}
 
 fn shorter(a: usize, b: usize) -> usize
     ensures { λ r. ⌜ r ≡ min a b ⌝ }
@@ -13,12 +18,14 @@ fn shorter(a: usize, b: usize) -> usize
     if a < b { a } else { b }
 }
 
-// A ring, from its start on.
+// A ring, from its start on. One of more bytes than any machine's place stays as it is.
 fn turn(ring: &mut [u8], start: usize)
-    requires { ⌜ length (now ring) ≤ 1024 ⌝ }
-    ensures { λ _. ⌜ now (ring .exit) ≡ from-start start (now (ring .entry)) ⌝ }
+    ensures { λ _. ⌜ now (ring .exit) ≡ turned start (now (ring .entry)) ⌝ }
 {
     let size = ring.len();
+    if Machine::CAPACITY < size {
+        return;
+    }
     if start == 0 {
         return;
     }
@@ -31,18 +38,15 @@ fn turn(ring: &mut [u8], start: usize)
     put_bytes(ring, next, &old[0..start]);
 }
 
-// The places of a store, as many as there are starts, each from its start on. Nothing changes where a place has more bytes than any
-// machine's.
-pub fn put_in_order(store: &mut [u8], starts: &[usize], capacity: usize)
-    ensures { λ _. ⌜ now (store .exit) ≡ put-in-order capacity (now (starts .entry)) (now (store .entry)) ⌝ }
+// The places of a store, as many as there are both capacities and starts, each from its start on.
+pub fn put_in_order(store: &mut [u8], starts: &[usize], capacities: &[u16])
+    ensures { λ _. ⌜ now (store .exit) ≡ in-order (now (capacities .entry)) (now (starts .entry)) (now (store .entry)) ⌝ }
 {
-    if Machine::CAPACITY < capacity {
-        return;
-    }
+    let count = shorter(capacities.len(), starts.len());
     let mut from: usize = 0;
     let mut i: usize = 0;
-    while i < starts.len() {
-        let size = shorter(capacity, store.len() - from);
+    while i < count {
+        let size = shorter(wide(capacities[i]), store.len() - from);
         let to = from + size;
         turn(&mut store[from..to], starts[i]);
         from = to;

@@ -14,15 +14,16 @@ use Rattle.theory.specs.Runs.{Outcome}
 use Rattle.theory.specs.Source as S
 use Rattle.theory.specs.Word as W
 use Rattle.theory.specs.Word.{Entry, byte-of, bytes-of, spell, spell-entries}
-use Rattle.theory.specs.Machines.{SourceState, Memory, Position, contents, is-memory, run-source, run-word}
+use Rattle.theory.specs.Machines.{SourceState, Memory, count, Position, contents, is-sized, is-memory, run-source, run-word}
 use Rattle.theory.specs.Machines.{valued, untidy, is-tidy, value-at}
-use Rattle.theory.specs.TurnedDown.{Answer, refused, unless, answer, after, mapped, lend, is-source}
+use Rattle.theory.specs.TurnedDown.{Answer, done, refused, unless, answer, after, mapped, lend, is-source}
 use Rattle.theory.specs.TurnedDown.{rule-9, rule-10, rule-15, rule-19}
 use Rattle.theory.specs.TurnedDown.{text-fault-under, text-lines, program-fault-under, word-fault, word-entries, table-fault, instructions}
 use Rattle.theory.specs.TurnedDown.{next-byte, next-entry, read-text-under, read-list-under, read-word, read-table, read-word-for}
 use Rattle.theory.specs.TurnedDown.{read-table-for}
 use Rattle.theory.specs.TurnedDown.{read-program-into, write-program-into, translate-into, run-from}
 use Rattle.theory.specs.TurnedDown.{read-word-into, write-word-into, run-on}
+use Rattle.theory.specs.RunTool.{report-on}
 use Rattle.theory.specs.Basics.{or-else, present}
 use Rattle.theory.specs.Claims.{Accepted, FitsASet}
 use Rattle.theory.specs.declared.End.{End}
@@ -35,7 +36,7 @@ use Rattle.theory.proofs.Nesting.{reads-accepted}
 use Rattle.theory.proofs.Sizes.{words-fit}
 use Rattle.theory.proofs.Texts.{text-accepted}
 use Rattle.theory.proofs.Words.{table-good, total-length}
-use Rattle.theory.proofs.Faults.{and-first, and-second}
+use Rattle.theory.proofs.Faults.{and-first, unless-none}
 use Rattle.theory.proofs.GoodMemory.{memory-is-good, contents-fit}
 use Rattle.tidy.specs.declared.Form.{Form}
 use Rattle.tidy.specs.declared.Form.the-variants.{Plain, Tidy}
@@ -43,6 +44,7 @@ use Rattle.tidy.specs.Forms.{word-in, text-in}
 use Rattle.tidy.proofs.Sizes.{tidy-words-fit}
 use Rattle.forms.proofs.Words.{text-spelled}
 use Rattle.memory.specs.Calls.{value-of}
+use Rattle.memory.proofs.Rule10.{are-sized}
 use Rattle.packing.specs.Packed.{end-number}
 use Rattle.packing.specs.Claims.{Fields, Fit, fields, program-fields, word-fields, count-fields, end-fields, value-fields, AnswersFit}
 use Rattle.packing.proofs.Bounds.{Low, low-unless, low-or, few-lines, program-low, few-bytes, text-low, few-instructions}
@@ -190,25 +192,34 @@ run-fits m p budget b o t l = go (is-memory m) o l
     go true (some r) l = fit-refused (end-fields {S = W.State}) r l
 
 -- Values
+symbols-fit : (m : Memory) → is-memory m ≡ true → length (contents m 1) ≤ 1024
+unfolding is-memory
+symbols-fit m e =
+    let good = memory-is-good m e in
+    let some-register = leb-true 1 (count m) (and-first (leb 1 (count m)) (leb (count m) 64) (good .registers)) in
+    let small = are-sized m (and-first (is-sized m) _ e) .symbols 0 in
+    omega (arith, contents-fit m good 0 some-register, small)
+
 value-fits : (m : Memory) → Fit (fields value-fields (value-of m))
 unfolding rule-10
 value-fits m = go (is-memory m) refl
   where
-    symbols-fit : is-memory m ≡ true → length (contents m 1) ≤ 1024
-    symbols-fit e =
-        let good = memory-is-good m e in
-        let some-register = leb-true 1 (m .count) (and-first (leb 1 (m .count)) (leb (m .count) 64) (good .registers)) in
-        let small = leb-true (m .capacity) 1024 (and-second (leb 1 (m .capacity)) (leb (m .capacity) 1024) (good .capacity)) in
-        omega (arith, contents-fit m good 0 some-register, small)
-
     go : (t : Bool) → is-memory m ≡ t
-        → Fit (fields value-fields (mapped (λ n. value-at (n .count) (contents n)) (answer (unless t 10 0) m)))
-    go true e = by-tidy (is-tidy (m .count) (contents m))
+        → Fit (fields value-fields (mapped (λ n. value-at (count n) (contents n)) (answer (unless t 10 0) m)))
+    go true e = by-tidy (is-tidy (count m) (contents m))
       where
         by-tidy : (t : Bool) → Fit (value-fields (cond t (valued (contents m 1)) untidy))
-        by-tidy true = record { what = omega arith; high = omega arith; low = omega (arith, symbols-fit e) }
+        by-tidy true = record { what = omega arith; high = omega arith; low = omega (arith, symbols-fit m e) }
         by-tidy false = record { what = omega arith; high = omega arith; low = omega arith }
     go false e = record { what = omega arith; high = omega arith; low = omega arith }
+
+-- A text for a lent output
+text-fits : (lent text : Bytes) → length lent < 2 ^ 32 → Fit (fields count-fields (lend lent (done text)))
+unfolding rule-19
+text-fits lent text h =
+    fit-answer count-fields (rule-19 lent text) text (no-room-low lent text)
+    (λ e. let room = leb-true (length text) (length lent) (unless-none (leb (length text) (length lent)) 19 0 e) in
+    record { what = omega arith; high = omega arith; low = omega (arith, h, room) })
 
 pub answers-fit : AnswersFit
 unfolding read-text-under read-list-under commands read-word-for read-table-for
@@ -224,9 +235,10 @@ answers-fit =
           (run-from s budget) (program-low σ (listed list)) (λ e. from-fits s budget b (present (listed list)));
       read-word = read-word-fits;
       write-word = write-word-fits;
-      runs-word = λ m p budget b word. run-fits m p budget b (or-else (word-fault word) (rule-15 next-byte (m .count) (word-entries word)))
-          (word-entries word) (word-for-low (m .count) word);
-      runs-table = λ m p budget b t. run-fits m p budget b (or-else (table-fault t) (rule-15 next-entry (m .count) t)) t
-          (table-for-low (m .count) t);
+      runs-word = λ m p budget b word. run-fits m p budget b (or-else (word-fault word) (rule-15 next-byte (count m) (word-entries word)))
+          (word-entries word) (word-for-low (count m) word);
+      runs-table = λ m p budget b t. run-fits m p budget b (or-else (table-fault t) (rule-15 next-entry (count m) t)) t
+          (table-for-low (count m) t);
       value = value-fits;
+      report = λ lent h capacities text sheet. text-fits lent (report-on capacities text sheet) h;
     }

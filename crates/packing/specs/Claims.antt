@@ -9,10 +9,12 @@ use Rattle.theory.specs.Text.{Bytes}
 use Rattle.theory.specs.ProgramText.{Command, variables}
 use Rattle.theory.specs.Runs.{Outcome}
 use Rattle.theory.specs.Word.{Entry}
+use Rattle.theory.specs.Machines as M
 use Rattle.theory.specs.Machines.{SourceState, Memory, Position, Value, valued, untidy}
 use Rattle.theory.specs.TurnedDown.{Answer, done, refused, read-text-under, read-list-under, read-word-for, read-table-for}
 use Rattle.theory.specs.TurnedDown.{read-program-into, write-program-into, translate-into, run-program}
-use Rattle.theory.specs.TurnedDown.{read-word-into, write-word-into, run-on}
+use Rattle.theory.specs.TurnedDown.{read-word-into, write-word-into, run-on, lend}
+use Rattle.theory.specs.RunTool.{report-on}
 use Rattle.theory.specs.declared.Setting.{Setting}
 use Rattle.theory.specs.declared.Setting.the-variants.{Any, LoopOnly}
 use Rattle.tidy.specs.declared.Form.{Form}
@@ -79,7 +81,7 @@ pub record ReadsBack : Type 1 where
   pub value : (a : Answer Value) → Fit (fields value-fields a) → unpack (packed symbols a) ≡ fields value-fields a
 
 -- Every answer of an entry fits: of programs handed in as text or as list under a setting, in a form where they are translated, of words
--- and tables, of runs whose budget has 32 bits, and of values
+-- and tables, of runs whose budget has 32 bits, of values, and of reports for an output whose length has 32 bits
 pub record AnswersFit : Type 0 where
   pub read-program : (σ : Setting) (list text : Bytes) → Fit (fields program-fields (read-program-into σ list text))
   pub write-program : (σ : Setting) (text list : Bytes) → Fit (fields count-fields (write-program-into σ text list))
@@ -94,7 +96,9 @@ pub record AnswersFit : Type 0 where
   pub read-word : (kinds operands : List ℕ) (word : Bytes) → Fit (fields count-fields (read-word-into kinds operands word))
   pub write-word : (word : Bytes) (table : List Entry) → Fit (fields count-fields (write-word-into word table))
   pub runs-word : (m : Memory) (p : Position) (budget : ℕ) → budget < 2 ^ 32 → (word : Bytes)
-      → Fit (fields end-fields (run-on m p budget (read-word-for (m .count) word)))
+      → Fit (fields end-fields (run-on m p budget (read-word-for (M.count m) word)))
   pub runs-table : (m : Memory) (p : Position) (budget : ℕ) → budget < 2 ^ 32 → (table : List Entry)
-      → Fit (fields end-fields (run-on m p budget (read-table-for (m .count) table)))
+      → Fit (fields end-fields (run-on m p budget (read-table-for (M.count m) table)))
   pub value : (m : Memory) → Fit (fields value-fields (value-of m))
+  pub report : (lent : Bytes) → length lent < 2 ^ 32 → (capacities : List ℕ) (text sheet : Bytes)
+      → Fit (fields count-fields (lend lent (done (report-on capacities text sheet))))

@@ -28,7 +28,7 @@ pub fn form(number: u32) -> Form
 }
 
 // What came of the call in bits 56 to 63, one count in bits 32 to 47 and another in bits 0 to 31.
-fn pack(what: u8, high: usize, low: usize) -> u64
+pub fn pack(what: u8, high: usize, low: usize) -> u64
     ensures { λ r. ⌜ r ≡ pack what high low ⌝ }
 {
     let top = what as u64 * 0x100_0000_0000_0000;
@@ -37,7 +37,7 @@ fn pack(what: u8, high: usize, low: usize) -> u64
 }
 
 // A refusal.
-fn refused(r: Refusal) -> u64
+pub fn refused(r: Refusal) -> u64
     ensures { λ n. ⌜ n ≡ pack 255 (r .number) (r .place) ⌝ }
 {
     pack(255, r.number as usize, r.place)

@@ -2,17 +2,22 @@
 ghost use mathlib.Core.Path.{_≡_};
 ghost use Rattle.memory.specs.Calls.{memory, refused-at, after-10};
 use memory::Ended;
-use memory::Machine;
 use memory::Position;
 use memory::Run;
 use memory::is_memory;
 use theory::Refusal;
 
 // A call that a rule after 10 turns down: rule 10 goes before.
-pub fn turned_down(m: Machine, store: &[u8], lengths: &[u16], at: Position, r: Refusal) -> Run
-    ensures { λ x. ⌜ x ≡ refused-at at (after-10 (memory m (now (store .entry)) (now (lengths .entry))) r) ⌝ }
+pub fn turned_down(
+    capacities: &[u16],
+    store: &[u8],
+    lengths: &[u16],
+    at: Position,
+    r: Refusal,
+) -> Run
+    ensures { λ x. ⌜ x ≡ refused-at at (after-10 (memory (now (capacities .entry)) (now (store .entry)) (now (lengths .entry))) r) ⌝ }
 {
-    if is_memory(m, store, lengths) {
+    if is_memory(capacities, store, lengths) {
         return Run {
             position: at,
             ended: Ended::Refused(r),

@@ -47,10 +47,10 @@ runs =
     ∷ row (refusal (translate-into word-text (9 ∷ 9 ∷ 9 ∷ []) (read-text []))) (refuse 19 0)
     ∷ row (refusal (translate-into word-text (9 ∷ 9 ∷ 9 ∷ 9 ∷ []) (read-list []))) passes
     ∷ row (refusal (translate-into word-text [] (read-text-under LoopOnly (bytes "while X0 != 0\n")))) (refuse 20 1)
-    ∷ row (refusal (run-program (read-text (bytes "z\n")) (state 0 1 [] []) 7)) (refuse 4 1)  -- the program before its state
-    ∷ row (refusal (run-program (read-text []) (state 0 1 [] []) 7)) (refuse 9 0)
+    ∷ row (refusal (run-program (read-text (bytes "z\n")) (state 1 0 [] []) 7)) (refuse 4 1)  -- the program before its state
+    ∷ row (refusal (run-program (read-text []) (state 1 0 [] []) 7)) (refuse 9 0)
     ∷ row (refusal (run-program (read-list []) (state 1 1 [] []) 7)) passes
-    ∷ row (refusal (run-program (read-list-under LoopOnly (7 ∷ 0 ∷ 0 ∷ [])) (state 0 1 [] []) 7)) (refuse 20 1)
+    ∷ row (refusal (run-program (read-list-under LoopOnly (7 ∷ 0 ∷ 0 ∷ [])) (state 1 0 [] []) 7)) (refuse 20 1)
     ∷ []
 
 -- A program translated into its tidy form: 19 goes by the size of that word

@@ -7,8 +7,8 @@ use Rattle.theory.specs.Text.{bytes, LF}
 use Rattle.theory.specs.RunSheet as H
 use Rattle.theory.specs.TurnedDown.{refuse}
 use Rattle.readings.specs.Example.{Example, text, list, lesson, list-lesson, word, entries, machine, table, source, memory}
-use Rattle.readings.specs.Example.{sheet, names, numbers, times, primed, passes, entry, state, fresh, nested, loop-in-while}
-use Rattle.readings.specs.Example.{register, empty, several}
+use Rattle.readings.specs.Example.{sheet, sheet-with, names, numbers, times, primed, passes, entry, state, fresh, nested}
+use Rattle.readings.specs.Example.{loop-in-while, fitting, unlike, uneven, all-empty, nested-unlike, register, empty, several}
 
 -- The limits, in the order of Limits
 unfoldable pub limits : List Example
@@ -283,11 +283,40 @@ states =
     ∷ source "" (state 9 1 (1 ∷ []) []) (refuse 9 0)
     ∷ source "" (state 9 1 (replicate 31 0 ++ (1 ∷ [])) []) (refuse 9 0)
     ∷ source "" (state 9 1 [] (replicate 15 0 ++ (1 ∷ []))) (refuse 9 0)
-    ∷ source "" (state 0 1 [] []) (refuse 9 0)
-    ∷ source "" (state 1 1 [] []) passes
-    ∷ source "" (state 1024 1 [] []) passes
-    ∷ source "" (state 1025 1 [] []) (refuse 9 0)
+    ∷ source nested (state 0 1 [] []) (refuse 9 0)
+    ∷ source nested (state 1 1 [] []) passes
+    ∷ source nested (state 1024 1 [] []) passes
+    ∷ source nested (state 1025 1 [] []) (refuse 9 0)
     ∷ source "" (fresh 9 4294967295 []) passes  -- any count of steps
+    ∷ []
+
+-- Source states, rule 9: "Rules 9, 10 and 18 read each capacity, 9 only those of variables below K"
+unfoldable pub variable-capacities : List Example
+variable-capacities =
+    source "" (state 0 1 [] []) passes  -- none is read
+    ∷ source "" (state 1025 1 [] []) passes
+    ∷ source "X1 <- 0\n" (unlike (2 ∷ 5 ∷ 0 ∷ []) 1 (2 ∷ 5 ∷ []) []) passes  -- K is 2, and variable 2's is not read
+    ∷ source "X1 <- 0\n" (unlike (2 ∷ 5 ∷ 1025 ∷ []) 1 (2 ∷ 5 ∷ []) []) passes
+    ∷ source "X1 <- 0\n" (unlike (2 ∷ 0 ∷ 5 ∷ []) 1 [] []) (refuse 9 0)  -- variable 1's is
+    ∷ source "X1 <- 0\n" (unlike (0 ∷ 5 ∷ 5 ∷ []) 1 [] []) (refuse 9 0)  -- and variable 0's, which no line names
+    ∷ source "X1 <- 0\n" (unlike (2 ∷ 1025 ∷ 5 ∷ []) 1 [] []) (refuse 9 0)
+    ∷ source "X1 <- 0\n" (unlike (2 ∷ 5 ∷ []) 1 (3 ∷ []) []) (refuse 9 0)  -- a value above its own variable's
+    ∷ source "X1 <- 0\n" (unlike (5 ∷ 2 ∷ []) 1 (5 ∷ 3 ∷ []) []) (refuse 9 0)
+    ∷ source "X1 <- 0\n" (unlike (2 ∷ 5 ∷ 9 ∷ []) 1 (0 ∷ 0 ∷ 1 ∷ []) []) (refuse 9 0)  -- a value at index K
+    ∷ []
+
+-- "and for a passes-left that of its loop's variable": of the outer loop X1, of the inner X0, with a `while` between them
+unfoldable pub loop-capacities : List Example
+loop-capacities =
+    source nested-unlike (unlike (2 ∷ 5 ∷ 9 ∷ []) 4 [] (5 ∷ 2 ∷ [])) passes
+    ∷ source nested-unlike (unlike (2 ∷ 5 ∷ 9 ∷ []) 4 [] (6 ∷ 2 ∷ [])) (refuse 9 0)
+    ∷ source nested-unlike (unlike (2 ∷ 5 ∷ 9 ∷ []) 4 [] (5 ∷ 3 ∷ [])) (refuse 9 0)
+    ∷ source nested-unlike (unlike (5 ∷ 2 ∷ 9 ∷ []) 4 [] (2 ∷ 5 ∷ [])) passes
+    ∷ source nested-unlike (unlike (5 ∷ 2 ∷ 9 ∷ []) 4 [] (3 ∷ 5 ∷ [])) (refuse 9 0)
+    ∷ source nested-unlike (unlike (2 ∷ 5 ∷ 9 ∷ []) 3 [] (5 ∷ [])) passes  -- at the inner `loop` line
+    ∷ source nested-unlike (unlike (2 ∷ 5 ∷ 9 ∷ []) 3 [] (6 ∷ [])) (refuse 9 0)
+    ∷ source nested-unlike (unlike (2 ∷ 5 ∷ 9 ∷ []) 6 [] (5 ∷ [])) passes  -- at the outer `endloop` line
+    ∷ source nested-unlike (unlike (2 ∷ 5 ∷ 9 ∷ []) 6 [] (6 ∷ [])) (refuse 9 0)
     ∷ []
 
 -- Memories, rule 10: sizes
@@ -305,6 +334,22 @@ memories =
     ∷ memory (register 3 "\0\0\0" []) (refuse 10 0)
     ∷ []
 
+-- Memories, rule 10: "1 to 1,024, and the store is exactly their sum"
+unfoldable pub uneven-sizes : List Example
+uneven-sizes =
+    memory (all-empty (3 ∷ 5 ∷ [])) passes
+    ∷ memory (all-empty (1 ∷ 1024 ∷ [])) passes
+    ∷ memory (all-empty (3 ∷ 0 ∷ [])) (refuse 10 0)  -- each of them
+    ∷ memory (all-empty (0 ∷ 3 ∷ [])) (refuse 10 0)
+    ∷ memory (all-empty (1 ∷ 1025 ∷ [])) (refuse 10 0)
+    ∷ memory (all-empty (2 ∷ replicate 63 1)) passes
+    ∷ memory (all-empty (2 ∷ replicate 64 1)) (refuse 10 0)
+    ∷ memory (uneven (1 ∷ 2 ∷ []) "\0\0\0\0" (0 ∷ 0 ∷ [])) (refuse 10 0)
+    ∷ memory (uneven (1 ∷ 2 ∷ []) "\0\0" (0 ∷ 0 ∷ [])) (refuse 10 0)
+    ∷ memory (uneven (1 ∷ 2 ∷ []) "\0\0\0" (0 ∷ [])) (refuse 10 0)
+    ∷ memory (uneven (1 ∷ 2 ∷ []) "\0\0\0" (0 ∷ 0 ∷ 0 ∷ [])) (refuse 10 0)
+    ∷ []
+
 -- Memories, rule 10: layout
 unfoldable pub layouts : List Example
 layouts =
@@ -314,10 +359,33 @@ layouts =
     ∷ memory (register 3 "1#\0" (3 ∷ [])) (refuse 10 0)
     ∷ memory (register 3 "1##" (4 ∷ [])) (refuse 10 0)
     ∷ memory (register 3 "12\0" (2 ∷ [])) (refuse 10 0)
-    ∷ memory (several 2 "1\0##" (1 ∷ 2 ∷ [])) passes  -- register r from byte (r - 1) × capacity
+    ∷ memory (several 2 "1\0##" (1 ∷ 2 ∷ [])) passes  -- register 2 from byte 2
     ∷ memory (several 2 "1\0##" (2 ∷ 1 ∷ [])) (refuse 10 0)
     ∷ memory (several 2 "1###" (1 ∷ 2 ∷ [])) (refuse 10 0)
     ∷ memory (several 3 "1\0##12" (1 ∷ 2 ∷ 2 ∷ [])) (refuse 10 0)
+    ∷ memory (uneven (3 ∷ 5 ∷ []) "1\0\0#1##\0" (1 ∷ 4 ∷ [])) passes  -- "the places following one another in register order"
+    ∷ memory (uneven (5 ∷ 3 ∷ []) "1\0\0#1##\0" (1 ∷ 4 ∷ [])) (refuse 10 0)
+    ∷ memory (uneven (3 ∷ 5 ∷ []) "1\0\0#1##\0" (4 ∷ 1 ∷ [])) (refuse 10 0)
+    ∷ memory (uneven (3 ∷ 5 ∷ []) "1\0#\0\0\0\0\0" (1 ∷ 1 ∷ [])) (refuse 10 0)  -- a symbol in the neighbour's place
+    ∷ memory (uneven (3 ∷ 5 ∷ []) "1111\0\0\0\0" (4 ∷ 0 ∷ [])) (refuse 10 0)
+    ∷ memory (uneven (3 ∷ 5 ∷ []) "\0\0\011111" (0 ∷ 5 ∷ [])) passes
+    ∷ []
+
+-- Rule 21: each scratch or counter register that the word names, against the largest of all variables
+unfoldable pub roomy : List Example
+roomy =
+    fitting "" [] passes  -- no variable, so nothing that the word names
+    ∷ fitting "loop X0\nendloop X0\n" (5 ∷ 5 ∷ 5 ∷ []) passes
+    ∷ fitting "loop X0\nendloop X0\n" (5 ∷ 5 ∷ 4 ∷ []) (refuse 21 0)  -- the counter
+    ∷ fitting "loop X0\nendloop X0\n" (5 ∷ 4 ∷ 5 ∷ []) (refuse 21 0)  -- scratch
+    ∷ fitting nested (5 ∷ 5 ∷ 5 ∷ 4 ∷ []) (refuse 21 0)  -- the counter of the inner loop
+    ∷ fitting "loop X0\nendloop X0\nloop X0\nendloop X0\n" (5 ∷ 5 ∷ 5 ∷ 4 ∷ []) passes  -- which is not used here
+    ∷ fitting "X0 <- X1\n" (5 ∷ 9 ∷ 5 ∷ []) (refuse 21 0)
+    ∷ fitting "X0 <- X1\n" (9 ∷ 5 ∷ 5 ∷ []) (refuse 21 0)
+    ∷ fitting "X0 <- X1\n" (5 ∷ 9 ∷ 9 ∷ []) passes  -- a copy uses no counter
+    ∷ fitting "X2 <- X0\n" (5 ∷ 9 ∷ 5 ∷ 5 ∷ []) (refuse 21 0)  -- a variable that no line names
+    ∷ fitting "X0 <- X0\nX0 <- X0 + 1\nX0 <- 0\n" (5 ∷ 1 ∷ []) passes  -- no scratch
+    ∷ fitting "while X0 != 0\nendwhile X0 != 0\n" (5 ∷ 1 ∷ []) passes
     ∷ []
 
 -- Sheets: sizes and names
@@ -367,8 +435,24 @@ lines =
     ∷ sheet 2 (bytes "\n7\n") (refuse 16 2)
     ∷ []
 
+-- Sheets: each value against the capacity of the variable that its column names, of 3 for X0 and 5 for X1
+unfoldable pub columned : List Example
+columned =
+    sheet-with 2 (3 ∷ 5 ∷ []) (bytes "X1 X0\n5 3\n") passes
+    ∷ sheet-with 2 (3 ∷ 5 ∷ []) (bytes "X1 X0\n4 4\n") (refuse 18 2)
+    ∷ sheet-with 2 (3 ∷ 5 ∷ []) (bytes "X1 X0\n6 3\n") (refuse 18 2)
+    ∷ sheet-with 2 (3 ∷ 5 ∷ []) (bytes "X0 X1\n5 3\n") (refuse 18 2)
+    ∷ sheet-with 2 (3 ∷ 5 ∷ []) (bytes "X0 X1\n3 5\n") passes
+    ∷ sheet-with 2 (3 ∷ 5 ∷ []) (bytes "X1\n5\n6\n") (refuse 18 3)
+    ∷ sheet-with 2 (3 ∷ 5 ∷ []) (bytes "X1 X0\n6\n") (refuse 16 2)  -- the whole line's count first
+    ∷ sheet-with 2 (3 ∷ 5 ∷ []) (bytes "X1 X0\n6 3 0\n") (refuse 16 2)
+    ∷ sheet-with 2 (3 ∷ 5 ∷ []) (bytes "X1 X0\n0 99999999999999999999\n") (refuse 18 2)
+    ∷ sheet-with 2 (3 ∷ 5 ∷ []) (bytes "X2\n6\n") (refuse 17 1)
+    ∷ []
+
 -- All of them
 unfoldable pub refusals : List (List Example)
 refusals =
     limits ∷ texts ∷ spellings ∷ almost ∷ pairs ∷ primes ∷ primed-lines ∷ primed-pairs ∷ primed-names ∷ primed-values ∷ lists ∷ lessons
-    ∷ lesson-lines ∷ list-lessons ∷ words ∷ tables ∷ machines ∷ places ∷ states ∷ memories ∷ layouts ∷ sheets ∷ named ∷ lines ∷ []
+    ∷ lesson-lines ∷ list-lessons ∷ words ∷ tables ∷ machines ∷ places ∷ states ∷ memories ∷ layouts ∷ roomy ∷ sheets ∷ named ∷ lines
+    ∷ columned ∷ uneven-sizes ∷ variable-capacities ∷ loop-capacities ∷ []

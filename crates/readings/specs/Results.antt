@@ -9,8 +9,9 @@ use lib.ListN.{replicate}
 use Rattle.theory.specs.Basics.{present}
 use Rattle.theory.specs.Text.{Bytes, bytes, name, by-digits, by-primes, name-by}
 use Rattle.theory.specs.ProgramText.{clear, increment, copy, loop, while, plain, opens, closes, spelling-by, list-of, text-of}
+use Rattle.theory.specs.Word.{bytes-of}
 use Rattle.theory.specs.Translation.{word-text}
-use Rattle.theory.specs.Machines.{fresh-source, fresh-word, SourceState, Memory, Position, untidy, halted-only}
+use Rattle.theory.specs.Machines.{fresh-source, fresh-word, SourceState, Memory, contents, Position, untidy, halted-only}
 use Rattle.theory.specs.TurnedDown.{Answer, mapped, refuse}
 use Rattle.theory.specs.TurnedDown.{read-text, read-list, read-word, read-word-for}
 use Rattle.theory.specs.RunTool.{shown, end-name}
@@ -20,9 +21,9 @@ use Rattle.bench.specs.Table as T
 use Rattle.tidy.specs.Forms.{tidy-charges}
 use Rattle.tidy.specs.declared.Form.the-variants.{Plain, Tidy}
 use Rattle.readings.specs.Example.{Example, output, fills, reads, counts, writes, digits, row, charges}
-use Rattle.readings.specs.Example.{runs, word-runs, value, form, numbers, spelled, prints}
+use Rattle.readings.specs.Example.{runs, word-runs, together, value, form, numbers, spelled, prints}
 use Rattle.readings.specs.Example.{SourceShown, WordShown, FormShown, passes, has, entry, state, fresh, nested, loop-in-while}
-use Rattle.readings.specs.Example.{register, several}
+use Rattle.readings.specs.Example.{unlike, uneven, register, several}
 
 -- A program as a list, its word, and the text of a list
 abbrev pub list-for : String → Answer (List ℕ)
@@ -232,6 +233,16 @@ loops =
     ∷ runs loop-in-while (fresh 9 0 (2 ∷ [])) 3 (stands Spent 3 4 (0 ∷ []) (2 ∷ 0 ∷ []))  -- its loop is inside no other
     ∷ []
 
+-- Runs of sources: "A variable's capacity is that of its register, and a copy too long for its target is full"
+unfoldable pub own-room : List Example
+own-room =
+    runs "X0 <- X1\n" (unlike (2 ∷ 3 ∷ []) 1 (0 ∷ 3 ∷ []) []) 7 (stands Full 0 1 (0 ∷ 3 ∷ []) [])
+    ∷ runs "X0 <- X1\n" (unlike (3 ∷ 2 ∷ []) 1 (3 ∷ 2 ∷ []) []) 7 (stands Halted 1 2 (2 ∷ 2 ∷ []) [])
+    ∷ runs "X1 <- X1 + 1\n" (unlike (2 ∷ 3 ∷ []) 1 (2 ∷ 2 ∷ []) []) 7 (stands Halted 1 2 (2 ∷ 3 ∷ []) [])
+    ∷ runs "X1 <- X1 + 1\n" (unlike (3 ∷ 2 ∷ []) 1 (2 ∷ 2 ∷ []) []) 7 (stands Full 0 1 (2 ∷ 2 ∷ []) [])
+    ∷ runs "loop X1\nendloop X1\n" (unlike (2 ∷ 3 ∷ []) 1 (2 ∷ 3 ∷ []) []) 2 (stands Spent 2 2 (2 ∷ 3 ∷ []) (2 ∷ []))
+    ∷ []
+
 -- Where a machine stands; the end of a run of a word, its steps, its place and the memory
 abbrev pub at : ℤ → ℕ → Position
 at q n = record { place = q; steps = n }
@@ -262,6 +273,19 @@ word-steps =
     ∷ word-runs "11#1#####" (several 2 "1#\0\0" (2 ∷ 0 ∷ [])) (at (pos 1) 0) 2 (leaves Strayed 2 (pos 4) (several 2 "#\01\0" (1 ∷ 1 ∷ [])))
     ∷ word-runs "1#1#" (register 2 "\0\0" (0 ∷ [])) (at (pos 1) 0) 1 (leaves Spent 1 (pos 2) (register 2 "1\0" (1 ∷ [])))  -- a step
     ∷ word-runs "1111####" (register 1 "\0" (0 ∷ [])) (at (pos 1) 0) 7 (leaves Strayed 1 (negsuc 2) (register 1 "\0" (0 ∷ [])))
+    ∷ []
+
+-- "Each register gets its own capacity": what register 2 of two holds; and it has room where register 1 is full
+unfoldable pub uneven-runs : List Example
+uneven-runs =
+    spelled (bytes-of (contents (uneven (3 ∷ 5 ∷ []) "1#\0#1##\0" (2 ∷ 4 ∷ [])) 2)) "#1##"
+    ∷ spelled (bytes-of (contents (uneven (3 ∷ 5 ∷ []) "1#\0#1##\0" (2 ∷ 4 ∷ [])) 1)) "1#"
+    ∷ word-runs "11#1#" (uneven (1 ∷ 3 ∷ []) "1#\0\0" (1 ∷ 1 ∷ [])) (at (pos 1) 0) 7
+    (leaves Full 1 (pos 2) (uneven (1 ∷ 3 ∷ []) "1#1\0" (1 ∷ 2 ∷ [])))
+    ∷ word-runs "11#1#" (uneven (3 ∷ 1 ∷ []) "1\0\0#" (1 ∷ 1 ∷ [])) (at (pos 1) 0) 7
+    (leaves Full 0 (pos 1) (uneven (3 ∷ 1 ∷ []) "1\0\0#" (1 ∷ 1 ∷ [])))
+    ∷ word-runs "1#" (uneven (3 ∷ 1 ∷ []) "1\0\0#" (1 ∷ 1 ∷ [])) (at (pos 1) 0) 7
+    (leaves Halted 1 (pos 2) (uneven (3 ∷ 1 ∷ []) "11\0#" (2 ∷ 1 ∷ [])))
     ∷ []
 
 -- The value: "register 1 under that condition, and otherwise the answer is untidy"
@@ -340,6 +364,17 @@ primed-runs =
     ∷ prints (bytes "X''' <- 0\n") (bytes "X3'\n") "refused 16 1\n"
     ∷ []
 
+-- Registers of unequal length: "a copy too long for its target is full", "a word that fills up inside a copy reports its own steps"
+unfoldable pub unequal : List Example
+unequal =
+    together "X0 <- X1\n" (2 ∷ 5 ∷ 5 ∷ []) (1 ∷ 4 ∷ []) (Full, 0) (Full, 14)  -- 1, 4 that clear, 8 that move, 1 that takes
+    ∷ together "X1 <- X1 + 1\nX0 <- X1\n" (2 ∷ 5 ∷ 5 ∷ []) (1 ∷ 4 ∷ []) (Full, 1) (Full, 15)  -- a charge of 1 for the first step
+    ∷ together "X0 <- X1\n" (3 ∷ 5 ∷ 5 ∷ []) (0 ∷ 3 ∷ []) (Halted, 1) (Halted, 28)
+    ∷ together "X0 <- X0 + 1\n" (2 ∷ []) (2 ∷ []) (Full, 0) (Full, 1)
+    ∷ together "X0 <- X1\n" (5 ∷ 5 ∷ 2 ∷ []) (0 ∷ 3 ∷ []) (Halted, 1) (Full, 13)  -- capacities that rule 21 turns down
+    ∷ together "loop X0\nendloop X0\n" (3 ∷ 3 ∷ 1 ∷ []) (2 ∷ []) (Halted, 3) (Full, 6)
+    ∷ []
+
 -- Its budgets: endless runs
 unfoldable pub budgets : List Example
 budgets =
@@ -351,4 +386,4 @@ budgets =
 unfoldable pub results : List (List Example)
 results =
     outputs ∷ programs ∷ paid ∷ notations ∷ digit-texts ∷ spelled-names ∷ ends ∷ loops ∷ word-ends ∷ word-steps ∷ values ∷ forms ∷ reports
-    ∷ printed-runs ∷ primed-runs ∷ budgets ∷ []
+    ∷ printed-runs ∷ primed-runs ∷ unequal ∷ budgets ∷ uneven-runs ∷ own-room ∷ []

@@ -1,3 +1,4 @@
+pub mod Sets
 pub mod Fresh
 pub mod Starting
 pub mod Values
@@ -10,3 +11,4 @@ pub mod Lending
 pub mod Columns
 pub mod Stepping
 pub mod Translating
+pub mod Room

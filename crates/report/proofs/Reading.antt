@@ -23,10 +23,11 @@ use Rattle.report.specs.Rows.{Listed}
 list-accepted : (p : List Command) → Accepted p → read-list (list-of p) ≡ done (commands (list-of p))
 list-accepted p a = lists-round-trip .0 p a ∙ ap done (sym (commands-list p))
 
+pub few-named : (list : Bytes) (K : ℕ) → Listed list K → variables (commands list) ≤ 32
+few-named list K h = few-variables (commands list) (reads-accepted .1 list (commands list) (h .accepted))
+
 pub listed-few : (list : Bytes) (K : ℕ) → Listed list K → K ≤ 32
-listed-few list K h =
-    let accepted : Accepted (commands list) = reads-accepted .1 list (commands list) (h .accepted) in
-    omega (arith, h .named, few-variables (commands list) accepted)
+listed-few list K h = omega (arith, h .named, few-named list K h)
 
 -- A text that is read: its program, and the list, of which so many lines are filled
 pub record Read (t list : Bytes) (q : Program) : Type 0 where

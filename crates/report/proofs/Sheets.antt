@@ -11,12 +11,12 @@ use borrow.Author.Tests.{leb-true}
 use Rattle.theory.specs.Text.{Bytes, split-lines, ends-in-LF}
 use Rattle.theory.specs.ProgramText.{above}
 use Rattle.theory.specs.RunSheet.{names, distinct}
-use Rattle.theory.specs.TurnedDown.{sheet-size-fault, names-fault, rows-fault, names-of, sheet-lines-fault, sheet-fault}
+use Rattle.theory.specs.TurnedDown.{sheet-size-fault, names-fault, rows-fault, names-of, sheet-lines-fault, sheet-fault-for}
 use Rattle.theory.proofs.Texts.{joined, joined-lines}
 use Rattle.theory.proofs.Faults.{none-first, none-second, unless-none, and-first, and-second}
 use Rattle.sheet.proofs.Answered.{names-some}
 
-pub record Sheet (K : ℕ) (s : Bytes) : Type 0 where
+pub record Sheet (limits : List ℕ) (K : ℕ) (s : Bytes) : Type 0 where
   pub size : length s ≤ 4096
   pub ended : ends-in-LF s ≡ true
   pub first : Bytes
@@ -24,7 +24,7 @@ pub record Sheet (K : ℕ) (s : Bytes) : Type 0 where
   pub lines : split-lines s ≡ first ∷ rest
   pub low : above (names-of (split-lines s)) ≤ K
   pub apart : distinct (names-of (split-lines s)) ≡ true
-  pub rows : rows-fault 1024 (length (names-of (split-lines s))) 2 rest ≡ none
+  pub rows : rows-fault limits (names-of (split-lines s)) 2 rest ≡ none
 
 -- The names line
 abbrev Good : ℕ → List ℕ → Type 0
@@ -46,11 +46,11 @@ ended-some s h e =
     let z : _≡_ {A = ℕ} 0 1 = cc in
     omega arith
 
-lines-accepted : (K : ℕ) (s : Bytes) (ls : List Bytes) → split-lines s ≡ ls → length s ≤ 4096 → ends-in-LF s ≡ true
-    → sheet-lines-fault 1024 K ls ≡ none → Sheet K s
-lines-accepted K s [] e size ended h = absurd (ended-some s ended e)
-lines-accepted K s (l ∷ ls) e size ended h =
-    let fault = rows-fault 1024 (length (names-of (l ∷ ls))) 2 ls in
+lines-accepted : (limits : List ℕ) (K : ℕ) (s : Bytes) (ls : List Bytes) → split-lines s ≡ ls → length s ≤ 4096 → ends-in-LF s ≡ true
+    → sheet-lines-fault K limits ls ≡ none → Sheet limits K s
+lines-accepted limits K s [] e size ended h = absurd (ended-some s ended e)
+lines-accepted limits K s (l ∷ ls) e size ended h =
+    let fault = rows-fault limits (names-of (l ∷ ls)) 2 ls in
     let named = names-accepted K l ls (none-first (names-fault K (names l)) fault h) in
     let good : Good K (names-of (split-lines s)) = subst (λ m. Good K (names-of m)) (sym e) named in
     let ns = names-of (split-lines s) in
@@ -62,21 +62,21 @@ lines-accepted K s (l ∷ ls) e size ended h =
       lines = e;
       low = leb-true (above ns) K (and-first (leb (above ns) K) (distinct ns) good);
       apart = and-second (leb (above ns) K) (distinct ns) good;
-      rows = subst (λ m. rows-fault 1024 (length (names-of m)) 2 ls ≡ none) (sym e) (none-second (names-fault K (names l)) fault h);
+      rows = subst (λ m. rows-fault limits (names-of m) 2 ls ≡ none) (sym e) (none-second (names-fault K (names l)) fault h);
     }
 
-module _ (K : ℕ) (s : Bytes) (h : sheet-fault 1024 K s ≡ none) where
+module _ (limits : List ℕ) (K : ℕ) (s : Bytes) (h : sheet-fault-for K limits s ≡ none) where
   sized : (leb (length s) 4096 && ends-in-LF s) ≡ true
-  unfolding sheet-fault sheet-size-fault
+  unfolding sheet-fault-for sheet-size-fault
   sized =
-      let first = none-first (sheet-size-fault s) (sheet-lines-fault 1024 K (split-lines s)) h in
+      let first = none-first (sheet-size-fault s) (sheet-lines-fault K limits (split-lines s)) h in
       unless-none (leb (length s) 4096 && ends-in-LF s) 16 0 first
 
-  lined : sheet-lines-fault 1024 K (split-lines s) ≡ none
-  unfolding sheet-fault
-  lined = none-second (sheet-size-fault s) (sheet-lines-fault 1024 K (split-lines s)) h
+  lined : sheet-lines-fault K limits (split-lines s) ≡ none
+  unfolding sheet-fault-for
+  lined = none-second (sheet-size-fault s) (sheet-lines-fault K limits (split-lines s)) h
 
-  pub sheet-accepted : Sheet K s
+  pub sheet-accepted : Sheet limits K s
   sheet-accepted =
       let size : length s ≤ 4096 = leb-true (length s) 4096 (and-first (leb (length s) 4096) (ends-in-LF s) sized) in
-      lines-accepted K s (split-lines s) refl size (and-second (leb (length s) 4096) (ends-in-LF s) sized) lined
+      lines-accepted limits K s (split-lines s) refl size (and-second (leb (length s) 4096) (ends-in-LF s) sized) lined

@@ -3,15 +3,17 @@ use mathlib.Core.Path.{_≡_}
 use mathlib.Core.Option.{none}
 use mathlib.Core.List.{List, _++_}
 use Prim.Native.Nat.{ℕ, _≤_}
-use Rattle.theory.specs.Limits.{tool-capacity}
+use Rattle.theory.specs.Basics.{or-else}
 use Rattle.theory.specs.Text.{Bytes, split-lines}
 use Rattle.theory.specs.ProgramText.{Command, variables, commands}
 use Rattle.theory.specs.Runs.{Outcome}
 use Rattle.theory.specs.Source as S
 use Rattle.theory.specs.Word as W
 use Rattle.theory.specs.Translation.{word-text}
-use Rattle.theory.specs.TurnedDown.{done, answer, read-list, word-entries, sheet-fault, names-of}
-use Rattle.theory.specs.RunTool.{tool-source, tool-word, header, rows-of, tool-fault, printed}
+use Rattle.theory.specs.TurnedDown.{done, answer, read-list, word-entries, sheet-fault-for, rule-21, names-of}
+use Rattle.theory.specs.Machines.{capacity-of}
+use Rattle.theory.specs.RunTool.{source-on, word-on, header, rows-of, capacities-fault, report-fault, printed}
+use Rattle.capacities.specs.Room.{of-variables}
 use Rattle.theory.specs.declared.End.the-variants.{Spent}
 use Rattle.word.specs.Answers.{zipped}
 use Rattle.memory.specs.declared.answers.Ended as M
@@ -58,19 +60,23 @@ pub record Tabled (list kinds operands : List ℕ) (K : ℕ) : Type 0 where
   pub listed : Listed list K
   pub table : zipped kinds operands ≡ word-entries (word-text (commands list))
 
--- A sheet that is accepted for a program of K variables, and its names
-pub record Given (sheet : Bytes) (names : Names) (K : ℕ) : Type 0 where
-  pub passes : sheet-fault tool-capacity K sheet ≡ none
+-- A sheet that is accepted for a program of K variables on registers of these capacities, and its names
+pub record Given (capacities : List ℕ) (sheet : Bytes) (names : Names) (K : ℕ) : Type 0 where
+  pub passes : sheet-fault-for K (of-variables capacities) sheet ≡ none
   pub columns : names ≡ names-record (names-of (split-lines sheet))
 
 -- The row of a program's runs from v
-pub record Ran (p : List Command) (v : ℕ → ℕ) (r : Row) : Type 0 where
-  pub row : r ≡ row-of (tool-source p v) (tool-word p v)
+pub record Ran (capacities : List ℕ) (p : List Command) (v : ℕ → ℕ) (r : Row) : Type 0 where
+  pub row : r ≡ row-of (source-on capacities p v) (word-on capacities p v)
   pub within : Within r
 
--- What is printed for a program that is accepted
-unfoldable pub program-report : List Command → Bytes → Bytes
-program-report p sheet = printed (answer (tool-fault p sheet) (header ++ rows-of p (split-lines sheet)))
+-- What is printed for a program that is accepted; and where rules 10 and 21 let the capacities pass
+unfoldable pub program-report : List ℕ → List Command → Bytes → Bytes
+program-report capacities p sheet =
+    printed (answer (report-fault capacities p sheet) (header ++ rows-of capacities p (split-lines sheet)))
+
+abbrev pub Roomy : List ℕ → List Command → Type 0
+Roomy capacities p = or-else (capacities-fault capacities) (rule-21 (capacity-of capacities) p) ≡ none
 
 -- The header and a line for each run, of 147,467 bytes at most: a sheet of 4,096 bytes has 4,095 runs at most, and a line 36 bytes
 pub record Printed (text : Bytes) (before after : Bytes) (size : ℕ) : Type 0 where

@@ -1,6 +1,8 @@
-// The run tool's text (document 01, "Run sheet and run tool"): from a program's text and a sheet's to the whole of what is printed.
+// The run tool's text (document 01, "Run sheet and run tool"): from a program's text and a sheet's to the whole of what is printed; and the
+// same on registers of other capacities (document 02, request 5).
 mod rows; // rows.rt: the runs of a row
 
+use memory::Machine;
 use printing::put_header;
 use printing::put_refusal;
 use printing::put_row;
@@ -8,7 +10,6 @@ use program::Checked;
 use program::Program;
 use rows::run_row;
 use sheet::Names;
-use source::State;
 use theory::Refusal;
 use theory::Setting;
 use tidy::Form;
@@ -20,9 +21,10 @@ ghost use mathlib.Core.List.{_++_};
 ghost use Rattle.theory.specs.Text.{split-lines};
 ghost use Rattle.theory.specs.TurnedDown.{lent-after};
 ghost use Rattle.theory.specs.RunTool as RunTool;
-ghost use Rattle.theory.specs.RunTool.{header, rows-of};
+ghost use Rattle.theory.specs.RunTool.{header, rows-of, tool-capacities};
 ghost use Rattle.theory.specs.ProgramText.{commands};
-ghost use Rattle.report.specs.Rows.{Listed, Ready, Tabled, Given, program-report, Printed};
+ghost use Rattle.report.specs.Rows.{Listed, Ready, Tabled, Given, Roomy, program-report, Printed};
+ghost use Rattle.report.specs.Fresh.{IsSet};
 ghost use Rattle.report.specs.Answers.{reported, report-into};
 
 // The text has so many bytes, or does not fit into the output.
@@ -35,6 +37,9 @@ impl Reported {
     // "Its word buffer has 65,536 bytes".
     pub const WORD: usize = 65536;
 
+    // "capacity 1,024".
+    pub const CAPACITY: u16 = 1024;
+
     // Bytes that are enough for any report: the header's 47, and 36 for each row, of which there are 4,095 at most.
     pub const MOST: usize = 147467;
 }
@@ -45,21 +50,25 @@ fn put_rows(
     kinds: &[u8],
     operands: &[u32],
     variables: usize,
+    capacities: &[u16],
     sheet: &[u8],
     names: Names,
     out: &mut [u8],
 ) -> usize
-    requires { ⌜ Tabled (now list) (now kinds) (now operands) variables × Given (now sheet) names variables ⌝ }
-    ensures { λ r. ⌜ Printed (header ++ rows-of (commands (now (list .entry))) (split-lines (now (sheet .entry))))
+    requires { ⌜ Tabled (now list) (now kinds) (now operands) variables × IsSet (now capacities)
+        × Given (now capacities) (now sheet) names variables ⌝ }
+    ensures { λ r. ⌜ Printed
+        (header ++ rows-of (now (capacities .entry)) (commands (now (list .entry))) (split-lines (now (sheet .entry))))
         (now (out .entry)) (now (out .exit)) r ⌝ }
 {
+    let limits = capacities::of_variables(capacities);
     let mut place = put_header(&mut *out);
     let mut at = sheet::first_row(sheet);
     let mut n: usize = 2;
     while at < sheet.len() {
-        let line = sheet::row(sheet, names, State::CAPACITY, n, at);
+        let line = sheet::row(sheet, names, limits, n, at);
         let values = line.values;
-        let row = run_row(list, kinds, operands, variables, values);
+        let row = run_row(list, kinds, operands, variables, capacities, limits, values);
         place = put_row(&mut *out, place, row);
         at = line.next;
         n += 1;
@@ -72,12 +81,14 @@ fn put_word_rows(
     list: &[u8],
     word: &[u8],
     variables: usize,
+    capacities: &[u16],
     sheet: &[u8],
     names: Names,
     out: &mut [u8],
 ) -> usize
-    requires { ⌜ Ready (now list) (now word) variables × Given (now sheet) names variables ⌝ }
-    ensures { λ r. ⌜ Printed (header ++ rows-of (commands (now (list .entry))) (split-lines (now (sheet .entry))))
+    requires { ⌜ Ready (now list) (now word) variables × IsSet (now capacities) × Given (now capacities) (now sheet) names variables ⌝ }
+    ensures { λ r. ⌜ Printed
+        (header ++ rows-of (now (capacities .entry)) (commands (now (list .entry))) (split-lines (now (sheet .entry))))
         (now (out .entry)) (now (out .exit)) r ⌝ }
 {
     let mut kinds = [0u8; Instruction::INSTRUCTIONS];
@@ -88,6 +99,7 @@ fn put_word_rows(
             &kinds[..count],
             &operands[..count],
             variables,
+            capacities,
             sheet,
             names,
             out,
@@ -100,65 +112,108 @@ fn put_word_rows(
 fn put_translated(
     list: &[u8],
     variables: usize,
+    capacities: &[u16],
     sheet: &[u8],
     names: Names,
     out: &mut [u8],
 ) -> usize
-    requires { ⌜ Listed (now list) variables × Given (now sheet) names variables ⌝ }
-    ensures { λ r. ⌜ Printed (program-report (commands (now (list .entry))) (now (sheet .entry))) (now (out .entry)) (now (out .exit)) r ⌝ }
+    requires { ⌜ Listed (now list) variables × Roomy (now capacities) (commands (now list))
+        × Given (now capacities) (now sheet) names variables ⌝ }
+    ensures { λ r. ⌜ Printed (program-report (now (capacities .entry)) (commands (now (list .entry))) (now (sheet .entry)))
+        (now (out .entry)) (now (out .exit)) r ⌝ }
 {
     let mut word = [0u8; Reported::WORD];
     match translation::translate_list(Setting::Any, Form::Plain, list, &mut word) {
         Translated::Refused(r) => put_refusal(out, r),
         Translated::Done(size) => {
             let end = size.symbols;
-            put_word_rows(list, &word[..end], variables, sheet, names, out)
+            put_word_rows(list, &word[..end], variables, capacities, sheet, names, out)
         }
     }
 }
 
-// An accepted program: rules 16 to 18 of its sheet, and then the rows.
-fn put_accepted(list: &[u8], variables: usize, sheet: &[u8], out: &mut [u8]) -> usize
-    requires { ⌜ Listed (now list) variables ⌝ }
-    ensures { λ r. ⌜ Printed (program-report (commands (now (list .entry))) (now (sheet .entry))) (now (out .entry)) (now (out .exit)) r ⌝ }
+// An accepted program and capacities that have room for its word: rules 16 to 18 of its sheet, and then the rows.
+fn put_roomy(
+    list: &[u8],
+    variables: usize,
+    capacities: &[u16],
+    sheet: &[u8],
+    out: &mut [u8],
+) -> usize
+    requires { ⌜ Listed (now list) variables × Roomy (now capacities) (commands (now list)) ⌝ }
+    ensures { λ r. ⌜ Printed (program-report (now (capacities .entry)) (commands (now (list .entry))) (now (sheet .entry)))
+        (now (out .entry)) (now (out .exit)) r ⌝ }
 {
-    let found = sheet::check(sheet, variables, State::CAPACITY);
+    let found = sheet::check(sheet, variables, capacities::of_variables(capacities));
     let names = found.names;
     let checked = found.checked;
     match checked {
         sheet::Checked::Refused(r) => put_refusal(out, r),
-        sheet::Checked::Accepted(_) => put_translated(list, variables, sheet, names, out),
+        sheet::Checked::Accepted(_) => {
+            put_translated(list, variables, capacities, sheet, names, out)
+        }
+    }
+}
+
+// An accepted program: rules 10 and 21 of the capacities, and then its sheet.
+fn put_accepted(
+    list: &[u8],
+    variables: usize,
+    capacities: &[u16],
+    sheet: &[u8],
+    out: &mut [u8],
+) -> usize
+    requires { ⌜ Listed (now list) variables ⌝ }
+    ensures { λ r. ⌜ Printed (program-report (now (capacities .entry)) (commands (now (list .entry))) (now (sheet .entry)))
+        (now (out .entry)) (now (out .exit)) r ⌝ }
+{
+    match capacities::check(list, capacities) {
+        list::Checked::Refused(r) => put_refusal(out, r),
+        list::Checked::Accepted(_) => put_roomy(list, variables, capacities, sheet, out),
     }
 }
 
 // The text, put from the first byte of an output on: rules 1 to 8 come first.
-fn put_report(text: &[u8], sheet: &[u8], out: &mut [u8]) -> usize
-    ensures { λ r. ⌜ Printed (RunTool.report (now (text .entry)) (now (sheet .entry))) (now (out .entry)) (now (out .exit)) r ⌝ }
+fn put_report(text: &[u8], sheet: &[u8], capacities: &[u16], out: &mut [u8]) -> usize
+    ensures { λ r. ⌜ Printed (RunTool.report-on (now (capacities .entry)) (now (text .entry)) (now (sheet .entry)))
+        (now (out .entry)) (now (out .exit)) r ⌝ }
 {
     let mut list = [0u8; Program::NUMBERS];
     match program::read(Setting::Any, text, &mut list) {
         Checked::Refused(r) => put_refusal(out, r),
         Checked::Accepted(p) => {
             let end = 3 * p.lines;
-            put_accepted(&list[..end], p.variables, sheet, out)
+            put_accepted(&list[..end], p.variables, capacities, sheet, out)
         }
     }
 }
 
-// The report of a program's text and a sheet's, at the start of an output. Where the output may be too short the text is measured first.
-pub fn report(text: &[u8], sheet: &[u8], out: &mut [u8]) -> Reported
-    ensures { λ r. ⌜ r ≡ reported (report-into (now (out .entry)) (now (text .entry)) (now (sheet .entry))) ⌝ }
-    ensures { λ _. ⌜ now (out .exit)
-        ≡ lent-after (now (out .entry)) (report-into (now (out .entry)) (now (text .entry)) (now (sheet .entry))) ⌝ }
+// The report of a program's text and a sheet's on registers of these capacities, at the start of an output. Where the output may be too
+// short the text is measured first.
+pub fn report_on(text: &[u8], sheet: &[u8], capacities: &[u16], out: &mut [u8]) -> Reported
+    ensures { λ r. ⌜ r ≡ reported
+        (report-into (now (out .entry)) (now (capacities .entry)) (now (text .entry)) (now (sheet .entry))) ⌝ }
+    ensures { λ _. ⌜ now (out .exit) ≡ lent-after (now (out .entry))
+        (report-into (now (out .entry)) (now (capacities .entry)) (now (text .entry)) (now (sheet .entry))) ⌝ }
 {
     if out.len() < Reported::MOST {
         let mut nothing = [0u8; 1];
-        if out.len() < put_report(text, sheet, &mut nothing) {
+        if out.len() < put_report(text, sheet, capacities, &mut nothing) {
             return Reported::Refused(Refusal {
                 number: 19,
                 place: 0,
             });
         }
     }
-    Reported::Done(put_report(text, sheet, out))
+    Reported::Done(put_report(text, sheet, capacities, out))
+}
+
+// The same on "64 registers, capacity 1,024".
+pub fn report(text: &[u8], sheet: &[u8], out: &mut [u8]) -> Reported
+    ensures { λ r. ⌜ r ≡ reported (report-into (now (out .entry)) tool-capacities (now (text .entry)) (now (sheet .entry))) ⌝ }
+    ensures { λ _. ⌜ now (out .exit)
+        ≡ lent-after (now (out .entry)) (report-into (now (out .entry)) tool-capacities (now (text .entry)) (now (sheet .entry))) ⌝ }
+{
+    let capacities = [Reported::CAPACITY; Machine::REGISTERS];
+    report_on(text, sheet, &capacities, out)
 }

@@ -6,7 +6,7 @@ use mathlib.Core.List.{List}
 use Prim.Native.Nat.{ℕ}
 use native.Mathlib.Omega.{arith}
 use Rattle.theory.specs.Word.{Entry}
-use Rattle.theory.specs.Machines.{Memory, is-memory}
+use Rattle.theory.specs.Machines.{Memory, count, is-memory}
 use Rattle.theory.specs.TurnedDown.{done, rule-10}
 use Rattle.memory.specs.declared.answers.Position.{Position}
 use Rattle.memory.specs.Calls.{called, turned-down}
@@ -28,11 +28,11 @@ module _ (m : Memory) (p : Position) (budget : ℕ) (t : List Entry) where
   unfolding usable-called rule-10
   no-memory h = rw h
 
-  pub refused-15 : is-memory m ≡ true → (i : ℕ) → first-unusable (m .count) t ≡ some i
+  pub refused-15 : is-memory m ≡ true → (i : ℕ) → first-unusable (count m) t ≡ some i
       → usable-called m p budget t ≡ turned-down m p (record { number = 15; place = i })
   unfolding usable-called usable-table rule-10
   refused-15 h i f = rw (h, f)
 
-  pub all-done : is-memory m ≡ true → first-unusable (m .count) t ≡ none → usable-called m p budget t ≡ called m p budget (done t)
+  pub all-done : is-memory m ≡ true → first-unusable (count m) t ≡ none → usable-called m p budget t ≡ called m p budget (done t)
   unfolding usable-called usable-table rule-10
   all-done h f = rw (h, f)

@@ -1,16 +1,16 @@
 -- One register's place: a symbol appended to what is laid out in it, the first one deleted; and the places that a store holds.
 use mathlib.Core.Path.{_≡_, refl, sym, ap, ap₂, _∙_}
 use mathlib.Core.List.{List, [], _∷_, _++_, append-assoc}
-use Prim.Native.Nat.{ℕ, zero, suc, _+_, _-_, _*_, _<_}
-use native.Mathlib.Nat.{suc-mul, zero-mul}
+use Prim.Native.Nat.{ℕ, zero, suc, _+_, _-_, _<_}
 use native.Mathlib.Omega.{arith}
 use lib.ListN.{length, take, drop, getD, set, replicate, length-append, length-map, length-replicate}
 use lib.Seq.{set-at, take-add, append-snoc, getD-take, getD-drop, getD-append-seam, take-append-seam}
 use Rattle.theory.specs.Text.{Bytes}
 use Rattle.theory.specs.Word.{Symbol, byte-of, bytes-of}
 use Rattle.theory.specs.Machines as M
-use Rattle.theory.specs.Machines.{laid}
+use Rattle.theory.specs.Machines.{offset, laid}
 use Rattle.theory.proofs.GoodMemory.{place-in-store}
+use Rattle.theory.proofs.Offsets.{offset-next}
 use Rattle.memory.specs.Held.{Held}
 
 -- One place
@@ -61,19 +61,22 @@ module _ (capacity : ℕ) (x : Symbol) (xs : List Symbol) (h : length xs < capac
       ∙ getD-append-seam rest 0 [] 0
 
 -- A store that holds registers, at register i, counted from 0
-pub held-byte : {capacity : ℕ} {f : ℕ → List Symbol} {store lengths : List ℕ} → Held capacity f store lengths → (i : ℕ) → i < length lengths
-    → (k : ℕ) → k < capacity → getD store (i * capacity + k) 0 ≡ getD (laid capacity (f (suc i))) k 0
-held-byte {capacity} {f} {store} {lengths} h i l k m =
-    sym (getD-take capacity (drop (i * capacity) store) k 0 m ∙ getD-drop (i * capacity) store k 0)
-    ∙ ap (λ (s : Bytes). getD (take capacity (drop (i * capacity) s)) k 0) (h .stored)
-    ∙ ap (λ (p : Bytes). getD p k 0) (place-in-store capacity f (length lengths) (h .fits) i l)
+pub held-byte : {capacities : List ℕ} {f : ℕ → List Symbol} {store lengths : List ℕ} → Held capacities f store lengths
+    → (i : ℕ) → i < length capacities → (k : ℕ) → k < getD capacities i 0
+    → getD store (offset capacities (suc i) + k) 0 ≡ getD (laid (getD capacities i 0) (f (suc i))) k 0
+held-byte {capacities} {f} {store} {lengths} h i l k m =
+    let capacity : ℕ = getD capacities i 0 in
+    let from : ℕ = offset capacities (suc i) in
+    sym (getD-take capacity (drop from store) k 0 m ∙ getD-drop from store k 0)
+    ∙ ap (λ (s : Bytes). getD (take capacity (drop from s)) k 0) (h .stored)
+    ∙ ap (λ (p : Bytes). getD p k 0) (place-in-store capacities f (length capacities) (h .fits) i l)
 
 -- A store whose places are laid out is that of the registers
-pub places-stored : (capacity : ℕ) (f : ℕ → List Symbol) (store : Bytes) (n : ℕ)
-    → ((i : ℕ) → i < n → take capacity (drop (i * capacity) store) ≡ laid capacity (f (suc i)))
-    → M.store-of capacity n f ≡ take (n * capacity) store
+pub places-stored : (capacities : List ℕ) (f : ℕ → List Symbol) (store : Bytes) (n : ℕ)
+    → ((i : ℕ) → i < n → take (getD capacities i 0) (drop (offset capacities (suc i)) store) ≡ laid (getD capacities i 0) (f (suc i)))
+    → M.store-of capacities n f ≡ take (offset capacities (suc n)) store
 unfolding M.store-of
-places-stored capacity f store zero h = rw zero-mul
-places-stored capacity f store (suc n) h =
-    ap₂ {C = Bytes} _++_ (places-stored capacity f store n λ i l. h i (omega arith)) (sym (h n (omega arith)))
-    ∙ rw (suc-mul n capacity) (sym (take-add (n * capacity) capacity store))
+places-stored capacities f store zero h = refl
+places-stored capacities f store (suc n) h =
+    ap₂ {C = Bytes} _++_ (places-stored capacities f store n λ i l. h i (omega arith)) (sym (h n (omega arith)))
+    ∙ rw (offset-next capacities n) (sym (take-add (offset capacities (suc n)) (getD capacities n 0) store))

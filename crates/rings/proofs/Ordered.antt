@@ -2,21 +2,21 @@
 use mathlib.Core.Path.{_≡_, refl, sym, ap, _∙_}
 use mathlib.Core.Bool.{Bool, true, false}
 use mathlib.Core.List.{List, [], _∷_}
-use Prim.Native.Nat.{ℕ, zero, suc, _+_, _-_, _*_, _≤_, _<_}
-use native.Mathlib.Nat.{suc-mul, zero-mul}
+use Prim.Native.Nat.{ℕ, zero, suc, _+_, _-_, _≤_, _<_}
 use native.Mathlib.Omega.{arith}
 use borrow.Author.Tests.{ltb-true, ltb-false}
 use lib.Dec.{ltb}
 use lib.ListN.{length, take, drop, getD, length-append, length-drop, take-append-drop}
 use lib.Seq.{getD-take, getD-drop, getD-append-add, length-take-le, take-length, ext-getD}
+use Rattle.theory.specs.Basics.{sum}
 use Rattle.theory.specs.Text.{Bytes}
 use Rattle.theory.specs.Word.{Symbol}
-use Rattle.theory.specs.Machines.{laid}
+use Rattle.theory.specs.Machines.{offset, laid}
 use Rattle.theory.proofs.GoodMemory.{length-laid}
+use Rattle.theory.proofs.Offsets.{offset-whole, place-inside}
 use Rattle.memory.specs.Held.{Held}
-use Rattle.memory.proofs.Places.{place-ends}
-use Rattle.order.specs.Order.{from-start, in-order, put-in-order}
-use Rattle.order.proofs.Turning.{from-start-length, put-as}
+use Rattle.order.specs.Order.{from-start, turned, in-order}
+use Rattle.order.proofs.Turning.{turned-as, turned-length}
 use Rattle.rings.specs.Ring.{Ring, wrapped}
 use Rattle.rings.proofs.OneRegister.{getD-front, places-stored}
 use Rattle.rings.proofs.Rings.{wrapped-low, wrapped-high, wrapped-below}
@@ -39,97 +39,89 @@ from-start-at start ring inside k l = go (ltb (start + k) (length ring)) refl
         ∙ getD-take start ring (start + k - length ring) 0 (omega arith)
         ∙ ap (λ (n : ℕ). getD ring n 0) (sym (wrapped-high (length ring) (start + k) high))
 
-in-order-length : (capacity : ℕ) (starts : List ℕ) (store : Bytes) → length (in-order capacity starts store) ≡ length store
+in-order-length : (capacities starts : List ℕ) (store : Bytes) → length (in-order capacities starts store) ≡ length store
 unfolding in-order
-in-order-length capacity [] store = refl
-in-order-length capacity (s ∷ starts) store =
-    let both = length-append (take capacity store) (drop capacity store) in
-    length-append (from-start s (take capacity store)) (in-order capacity starts (drop capacity store))
+in-order-length [] starts store = refl
+in-order-length (c ∷ capacities) [] store = refl
+in-order-length (c ∷ capacities) (s ∷ starts) store =
+    let both = length-append (take c store) (drop c store) in
+    length-append (turned s (take c store)) (in-order capacities starts (drop c store))
     ∙ omega (
       arith,
-      from-start-length s (take capacity store),
-      in-order-length capacity starts (drop capacity store),
+      turned-length s (take c store),
+      in-order-length capacities starts (drop c store),
       both,
-      ap length (take-append-drop capacity store),
+      ap length (take-append-drop c store),
     )
 
--- a place that lies in the store
-place-length : (capacity n : ℕ) (store : Bytes) → length store ≡ suc n * capacity → length (take capacity store) ≡ capacity
-place-length capacity n store h = length-take-le capacity store (omega (arith, suc-mul n capacity))
-
-in-order-at : (capacity : ℕ) (starts : List ℕ) (store : Bytes) → length store ≡ length starts * capacity → (i : ℕ) → i < length starts
-    → getD starts i 0 < capacity → (k : ℕ) → k < capacity
-    → getD (in-order capacity starts store) (i * capacity + k) 0 ≡ getD store (i * capacity + wrapped capacity (getD starts i 0 + k)) 0
+-- The bytes of a place within the capacity of any machine, whose start lies in it
+in-order-at : (capacities starts : List ℕ) (store : Bytes) → length store ≡ sum capacities → (i : ℕ) → i < length capacities
+    → i < length starts → getD capacities i 0 ≤ 1024 → getD starts i 0 < getD capacities i 0 → (k : ℕ) → k < getD capacities i 0
+    → getD (in-order capacities starts store) (offset capacities (suc i) + k) 0
+    ≡ getD store (offset capacities (suc i) + wrapped (getD capacities i 0) (getD starts i 0 + k)) 0
 unfolding in-order
-in-order-at capacity [] store h i l b k m = absurd (omega arith)
-in-order-at capacity (s ∷ starts) store h zero l b k m =
-    let size = place-length capacity (length starts) store h in
-    let ring : Bytes = take capacity store in
-    let w = wrapped capacity (s + k) in
-    let none : (n : ℕ) → 0 * capacity + n ≡ n = λ n. omega (arith, zero-mul capacity) in
+in-order-at [] starts store h i l g few b k m = absurd (omega arith)
+in-order-at (c ∷ capacities) [] store h i l g few b k m = absurd (omega arith)
+in-order-at (c ∷ capacities) (s ∷ starts) store h zero l g few b k m =
+    let ring : Bytes = take c store in
+    let size : length ring ≡ c = length-take-le c store (omega arith) in
+    let w = wrapped c (s + k) in
+    let none : (n : ℕ) → 0 + n ≡ n = λ n. omega arith in
     rw (none k, none w)
-    (getD-front (from-start s ring) (in-order capacity starts (drop capacity store)) k (omega (arith, from-start-length s ring, size))
+    (getD-front (turned s ring) (in-order capacities starts (drop c store)) k (omega (arith, turned-length s ring, size))
+    ∙ ap (λ (l : Bytes). getD l k 0) (turned-as s ring (omega (arith, size)))
     ∙ from-start-at s ring (omega (arith, size)) k (omega (arith, size))
     ∙ ap (λ (n : ℕ). getD ring (wrapped n (s + k)) 0) size
-    ∙ getD-take capacity store w 0 (wrapped-below capacity (s + k) (omega arith)))
-in-order-at capacity (s ∷ starts) store h (suc i) l b k m =
-    let size = place-length capacity (length starts) store h in
-    let ring : Bytes = take capacity store in
-    let front : length (from-start s ring) ≡ capacity = from-start-length s ring ∙ size in
-    let w = wrapped capacity (getD starts i 0 + k) in
-    let at : suc i * capacity + k ≡ length (from-start s ring) + (i * capacity + k) = omega (arith, suc-mul i capacity, front) in
-    let there : capacity + (i * capacity + w) ≡ suc i * capacity + w = omega (arith, suc-mul i capacity) in
-    ap (λ (n : ℕ). getD (in-order capacity (s ∷ starts) store) n 0) at
-    ∙ getD-append-add (from-start s ring) (in-order capacity starts (drop capacity store)) (i * capacity + k) 0
-    ∙ in-order-at capacity starts (drop capacity store) (omega (arith, length-drop capacity store, suc-mul (length starts) capacity)) i
-    (omega arith) b k m
-    ∙ getD-drop capacity store (i * capacity + w) 0
+    ∙ getD-take c store w 0 (wrapped-below c (s + k) (omega arith)))
+in-order-at (c ∷ capacities) (s ∷ starts) store h (suc i) l g few b k m =
+    let ring : Bytes = take c store in
+    let front : length (turned s ring) ≡ c = turned-length s ring ∙ length-take-le c store (omega arith) in
+    let before : ℕ = offset capacities (suc i) in
+    let w = wrapped (getD capacities i 0) (getD starts i 0 + k) in
+    let at : c + before + k ≡ length (turned s ring) + (before + k) = omega (arith, front) in
+    let there : c + (before + w) ≡ c + before + w = omega arith in
+    ap (λ (n : ℕ). getD (in-order (c ∷ capacities) (s ∷ starts) store) n 0) at
+    ∙ getD-append-add (turned s ring) (in-order capacities starts (drop c store)) (before + k) 0
+    ∙ in-order-at capacities starts (drop c store) (omega (arith, length-drop c store)) i (omega arith) (omega arith) few b k m
+    ∙ getD-drop c store (before + w) 0
     ∙ ap (λ (n : ℕ). getD store n 0) there
 
-pub ring-held : {capacity : ℕ} {f : ℕ → List Symbol} {store lengths starts store′ : List ℕ} → Ring capacity f store lengths starts
-    → capacity ≤ 1024 → store′ ≡ put-in-order capacity (take (length lengths - 0) (drop 0 starts)) store → Held capacity f store′ lengths
-ring-held {capacity} {f} {store} {lengths} {starts} {store′} h few o = record {
-  stored = sym (places-stored capacity f store′ (length lengths) place ∙ rw (← size) (take-length store′));
+pub ring-held : {capacities : List ℕ} {f : ℕ → List Symbol} {store lengths starts store′ : List ℕ} → Ring capacities f store lengths starts
+    → ((i : ℕ) → getD capacities i 0 ≤ 1024) → store′ ≡ in-order capacities starts store → Held capacities f store′ lengths
+ring-held {capacities} {f} {store} {lengths} {starts} {store′} h few is = record {
+  stored = sym (places-stored capacities f store′ (length capacities) place ∙ rw (offset-whole capacities, ← size) (take-length store′));
   counted = h .counted;
   fits = h .fits;
 }
   where
-    ours : List ℕ
-    ours = take (length lengths) starts
+    size : length store′ ≡ sum capacities
+    size = ap length is ∙ in-order-length capacities starts store ∙ h .room
 
-    count : length ours ≡ length lengths
-    count = length-take-le (length lengths) starts (h .enough)
-
-    is : store′ ≡ in-order capacity ours store
-    is =
-        let all : length lengths - 0 ≡ length lengths = omega arith in
-        o ∙ rw all (put-as capacity ours store few)
-
-    size : length store′ ≡ length lengths * capacity
-    size = ap length is ∙ in-order-length capacity ours store ∙ h .room
-
-    ordered : (i : ℕ) → i < length lengths → (k : ℕ) → k < capacity
-        → getD store′ (i * capacity + k) 0 ≡ getD store (i * capacity + wrapped capacity (getD starts i 0 + k)) 0
+    ordered : (i : ℕ) → i < length capacities → (k : ℕ) → k < getD capacities i 0
+        → getD store′ (offset capacities (suc i) + k) 0
+        ≡ getD store (offset capacities (suc i) + wrapped (getD capacities i 0) (getD starts i 0 + k)) 0
     ordered i l k m =
-        let start : getD ours i 0 ≡ getD starts i 0 = getD-take (length lengths) starts i 0 l in
-        let whole : length store ≡ length ours * capacity = h .room ∙ ap (λ (n : ℕ). n * capacity) (sym count) in
-        ap (λ (b : Bytes). getD b (i * capacity + k) 0) is
-        ∙ in-order-at capacity ours store whole i (omega (arith, count)) (omega (arith, start, h .begins i l)) k m
-        ∙ ap (λ (s : ℕ). getD store (i * capacity + wrapped capacity (s + k)) 0) start
+        ap (λ (b : Bytes). getD b (offset capacities (suc i) + k) 0) is
+        ∙ in-order-at capacities starts store (h .room) i l (omega (arith, h .enough)) (few i) (h .begins i l) k m
 
-    place : (i : ℕ) → i < length lengths → take capacity (drop (i * capacity) store′) ≡ laid capacity (f (suc i))
-    place i l = ext-getD 0 (take capacity (drop (i * capacity) store′)) (laid capacity (f (suc i))) (whole ∙ sym laid-size) each
+    place : (i : ℕ) → i < length capacities
+        → take (getD capacities i 0) (drop (offset capacities (suc i)) store′) ≡ laid (getD capacities i 0) (f (suc i))
+    place i l = ext-getD 0 (take capacity (drop from store′)) (laid capacity (f (suc i))) (whole ∙ sym laid-size) each
       where
-        whole : length (take capacity (drop (i * capacity) store′)) ≡ capacity
-        whole = length-take-le capacity (drop (i * capacity) store′)
-            (omega (arith, length-drop (i * capacity) store′, size, place-ends i (length lengths) capacity l))
+        capacity : ℕ
+        capacity = getD capacities i 0
+
+        from : ℕ
+        from = offset capacities (suc i)
+
+        whole : length (take capacity (drop from store′)) ≡ capacity
+        whole = length-take-le capacity (drop from store′) (omega (arith, length-drop from store′, size, place-inside capacities i))
 
         laid-size : length (laid capacity (f (suc i))) ≡ capacity
         laid-size = length-laid capacity (f (suc i)) (h .fits i l)
 
-        each : (k : ℕ) → k < length (take capacity (drop (i * capacity) store′))
-            → getD (take capacity (drop (i * capacity) store′)) k 0 ≡ getD (laid capacity (f (suc i))) k 0
+        each : (k : ℕ) → k < length (take capacity (drop from store′))
+            → getD (take capacity (drop from store′)) k 0 ≡ getD (laid capacity (f (suc i))) k 0
         each k m =
             let n : k < capacity = omega (arith, whole) in
-            getD-take capacity (drop (i * capacity) store′) k 0 n ∙ getD-drop (i * capacity) store′ k 0 ∙ ordered i l k n
-            ∙ h .stored i l k n
+            getD-take capacity (drop from store′) k 0 n ∙ getD-drop from store′ k 0 ∙ ordered i l k n ∙ h .stored i l k n

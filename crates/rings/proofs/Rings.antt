@@ -3,7 +3,7 @@ use mathlib.Core.Path.{_≡_, refl, sym, ap, _∙_, subst}
 use mathlib.Core.Logic.{_≢_}
 use mathlib.Core.Bool.{Bool, true, false}
 use mathlib.Core.List.{List, [], _∷_, _++_}
-use Prim.Native.Nat.{ℕ, suc, _+_, _-_, _*_, _≤_, _<_}
+use Prim.Native.Nat.{ℕ, suc, _+_, _-_, _≤_, _<_}
 use native.Mathlib.Omega.{arith}
 use borrow.Author.Tests.{lt-ltb, le-ltb, ltb-true, ltb-false, eqb-true, eqb-false}
 use lib.Dec.{eqb, ltb}
@@ -11,12 +11,12 @@ use lib.ListN.{length, getD, set, length-set, length-append}
 use lib.Seq.{getD-set-same, getD-set-other, set-getD}
 use Rattle.theory.specs.Basics.{put}
 use Rattle.theory.specs.Word.{Symbol, byte-of}
-use Rattle.theory.specs.Machines.{laid, lengths-of}
-use Rattle.theory.proofs.Cells.{put-ind, put-same, put-other}
-use Rattle.theory.proofs.GoodMemory.{length-laid, length-store, getD-cells}
+use Rattle.theory.specs.Machines.{offset, laid}
+use Rattle.theory.proofs.Cells.{put-same, put-other}
+use Rattle.theory.proofs.GoodMemory.{length-laid, length-store, length-cells, getD-cells}
+use Rattle.theory.proofs.Offsets.{offset-whole, places-apart, place-inside}
 use Rattle.memory.specs.Held.{Sized, Held}
 use Rattle.rings.specs.Ring.{Ring, Zeros, Appended, Deleted, wrapped}
-use Rattle.memory.proofs.Places.{place-ends}
 use Rattle.rings.proofs.Registers.{lengths-put}
 use Rattle.rings.proofs.OneRegister.{laid-append, laid-next, laid-last, held-byte}
 
@@ -104,22 +104,33 @@ module _ (size s : ℕ) (begins : s < size) where
           rw (wrapped-high size (s + 1) h, z, wrapped-low size s begins)
 
 -- Bytes of two registers' places are apart
-pub apart : (capacity i j a b : ℕ) → a < capacity → b < capacity → j ≢ i → j * capacity + b ≢ i * capacity + a
-apart capacity i j a b l m differ = go (ltb j i) refl
+pub apart : (capacities : List ℕ) (i j a b : ℕ) → a < getD capacities i 0 → b < getD capacities j 0 → j ≢ i
+    → offset capacities (suc j) + b ≢ offset capacities (suc i) + a
+apart capacities i j a b l m differ = go (ltb j i) refl
   where
-    go : (t : Bool) → ltb j i ≡ t → j * capacity + b ≢ i * capacity + a
-    go true e same = absurd (omega (arith, place-ends j i capacity (ltb-true j i e), same))
+    go : (t : Bool) → ltb j i ≡ t → offset capacities (suc j) + b ≢ offset capacities (suc i) + a
+    go true e same = absurd (omega (arith, places-apart capacities j i (ltb-true j i e), same))
     go false e same =
         let h : i ≤ j = ltb-false j i e in
-        absurd (omega (arith, place-ends i j capacity (omega (arith, differ)), same))
+        absurd (omega (arith, places-apart capacities i j (omega (arith, differ)), same))
 
 -- Registers in rings, at register i, counted from 0
 
-module _ {capacity : ℕ} {f : ℕ → List Symbol} {store lengths starts : List ℕ} (h : Ring capacity f store lengths starts) where
-  pub ring-sized : length lengths ≤ 64 → capacity ≤ 1024 → Sized capacity store lengths
-  ring-sized r c = record { room = h .room; registers = r; symbols = c }
+module _ {capacities : List ℕ} {f : ℕ → List Symbol} {store lengths starts : List ℕ} (h : Ring capacities f store lengths starts) where
+  pub ring-paired : length lengths ≡ length capacities
+  ring-paired = ap length (h .counted) ∙ length-cells (length capacities) (λ j. length (f (suc j)))
 
-  module _ (i : ℕ) (l : i < length lengths) where
+  pub ring-sized : length capacities ≤ 64 → ((i : ℕ) → getD capacities i 0 ≤ 1024) → Sized capacities store lengths
+  ring-sized r c = record { room = h .room; paired = ring-paired; registers = r; symbols = c }
+
+  module _ (i : ℕ) (l : i < length capacities) where
+    abbrev capacity : ℕ
+    capacity = getD capacities i 0
+
+    -- from which byte it has its place
+    abbrev from : ℕ
+    from = offset capacities (suc i)
+
     abbrev s : ℕ
     s = getD starts i 0
 
@@ -127,7 +138,7 @@ module _ {capacity : ℕ} {f : ℕ → List Symbol} {store lengths starts : List
     xs = f (suc i)
 
     pub ring-length : getD lengths i 0 ≡ length xs
-    ring-length = ap (λ (k : List ℕ). getD k i 0) (h .counted) ∙ getD-cells (length lengths) (λ j. length (f (suc j))) 0 i l
+    ring-length = ap (λ (k : List ℕ). getD k i 0) (h .counted) ∙ getD-cells (length capacities) (λ j. length (f (suc j))) 0 i l
 
     pub ring-within : getD lengths i 0 ≤ capacity
     ring-within = rw ring-length (h .fits i l)
@@ -135,53 +146,60 @@ module _ {capacity : ℕ} {f : ℕ → List Symbol} {store lengths starts : List
     -- one byte of its place, its length and its start changed
     ring-set : (ys : List Symbol) (a v start : ℕ) → length ys ≤ capacity → a < capacity → start < capacity
         → ((k : ℕ) → k < capacity
-        → getD (set store (i * capacity + a) v) (i * capacity + wrapped capacity (start + k)) 0 ≡ getD (laid capacity ys) k 0)
-        → Ring capacity (put f (suc i) ys) (set store (i * capacity + a) v) (set lengths i (length ys)) (set starts i start)
+        → getD (set store (from + a) v) (from + wrapped capacity (start + k)) 0 ≡ getD (laid capacity ys) k 0)
+        → Ring capacities (put f (suc i) ys) (set store (from + a) v) (set lengths i (length ys)) (set starts i start)
     ring-set ys a v start short inside begins here = record {
-      room = length-set store (i * capacity + a) v ∙ h .room ∙ ap (λ (n : ℕ). n * capacity) (sym (length-set lengths i (length ys)));
-      enough = omega (arith, h .enough, length-set lengths i (length ys), length-set starts i start);
+      room = length-set store (from + a) v ∙ h .room;
+      enough = omega (arith, h .enough, length-set starts i start);
       counted =
           ap (λ (k : List ℕ). set k i (length ys)) (h .counted)
-          ∙ lengths-put (length lengths) f ys i l
-          ∙ ap (λ (n : ℕ). lengths-of n (put f (suc i) ys)) (sym (length-set lengths i (length ys)));
-      fits = λ j m. put-ind (λ zs. length zs ≤ capacity) f (suc i) ys (suc j) (λ e. short) (λ e. h .fits j (old j m));
-      begins = λ j m. begun j (old j m) (eqb j i) refl;
-      stored = λ j m. held j (old j m) (eqb j i) refl;
+          ∙ lengths-put (length capacities) f ys i l;
+      fits = λ j m. fitted j m (eqb j i) refl;
+      begins = λ j m. begun j m (eqb j i) refl;
+      stored = λ j m. held j m (eqb j i) refl;
     }
       where
-        old : (j : ℕ) → j < length (set lengths i (length ys)) → j < length lengths
-        old j m = omega (arith, length-set lengths i (length ys))
-
         among : i < length starts
         among = omega (arith, h .enough)
 
-        begun : (j : ℕ) → j < length lengths → (t : Bool) → eqb j i ≡ t → getD (set starts i start) j 0 < capacity
+        fitted : (j : ℕ) → j < length capacities → (t : Bool) → eqb j i ≡ t → length (put f (suc i) ys (suc j)) ≤ getD capacities j 0
+        fitted j m true e = rw (eqb-true j i e, put-same f (suc i) ys) short
+        fitted j m false e =
+            let differ : j ≢ i = eqb-false j i e in
+            let other : suc j ≢ suc i = λ z. absurd (omega (arith, differ)) in
+            rw (put-other f (suc i) ys (suc j) other) (h .fits j m)
+
+        begun : (j : ℕ) → j < length capacities → (t : Bool) → eqb j i ≡ t → getD (set starts i start) j 0 < getD capacities j 0
         begun j m true e = rw (eqb-true j i e, getD-set-same starts i start 0 among) begins
         begun j m false e = rw (getD-set-other starts i j start 0 (eqb-false j i e)) (h .begins j m)
 
-        held : (j : ℕ) → j < length lengths → (t : Bool) → eqb j i ≡ t → (k : ℕ) → k < capacity
-            → getD (set store (i * capacity + a) v) (j * capacity + wrapped capacity (getD (set starts i start) j 0 + k)) 0
-            ≡ getD (laid capacity (put f (suc i) ys (suc j))) k 0
-        held j m true e k n = rw (eqb-true j i e, getD-set-same starts i start 0 among, put-same f (suc i) ys) (here k n)
+        held : (j : ℕ) → j < length capacities → (t : Bool) → eqb j i ≡ t → (k : ℕ) → k < getD capacities j 0
+            → getD (set store (from + a) v)
+            (offset capacities (suc j) + wrapped (getD capacities j 0) (getD (set starts i start) j 0 + k)) 0
+            ≡ getD (laid (getD capacities j 0) (put f (suc i) ys (suc j))) k 0
+        held j m true e k n =
+            let is : j ≡ i = eqb-true j i e in
+            rw (is, getD-set-same starts i start 0 among, put-same f (suc i) ys) (here k (rw is at n))
         held j m false e k n =
             let differ : j ≢ i = eqb-false j i e in
             let other : suc j ≢ suc i = λ z. absurd (omega (arith, differ)) in
-            let below = wrapped-below capacity (getD starts j 0 + k) (omega (arith, h .begins j m)) in
+            let w : ℕ = wrapped (getD capacities j 0) (getD starts j 0 + k) in
+            let below = wrapped-below (getD capacities j 0) (getD starts j 0 + k) (omega (arith, h .begins j m)) in
             rw (getD-set-other starts i j start 0 differ, put-other f (suc i) ys (suc j) other)
-            (getD-set-other store (i * capacity + a) (j * capacity + wrapped capacity (getD starts j 0 + k)) v 0
-            (apart capacity i j a (wrapped capacity (getD starts j 0 + k)) inside below differ) ∙ h .stored j m k n)
+            (getD-set-other store (from + a) (offset capacities (suc j) + w) v 0
+            (apart capacities i j a w inside below differ) ∙ h .stored j m k n)
 
     -- a byte of its place lies in the store
-    pub ring-inside : (a : ℕ) → a < capacity → i * capacity + a < length store
-    ring-inside a m = omega (arith, place-ends i (length lengths) capacity l, h .room)
+    pub ring-inside : (a : ℕ) → a < capacity → from + a < length store
+    ring-inside a m = omega (arith, place-inside capacities i, h .room)
 
     pub ring-append : (x : Symbol) → getD lengths i 0 < capacity
-        → Appended capacity f i x true (set store (i * capacity + wrapped capacity (s + getD lengths i 0)) (byte-of x))
+        → Appended capacities f i x true (set store (from + wrapped capacity (s + getD lengths i 0)) (byte-of x))
         (set lengths i (getD lengths i 0 + 1)) starts
     ring-append x short = (
       room,
       rw (ring-length, count-is) (subst
-          (λ (l : List ℕ). Ring capacity (put f (suc i) (xs ++ (x ∷ []))) (set store (i * capacity + a) (byte-of x))
+          (λ (l : List ℕ). Ring capacities (put f (suc i) (xs ++ (x ∷ []))) (set store (from + a) (byte-of x))
           (set lengths i (length (xs ++ (x ∷ [])))) l)
           (set-getD starts i 0) (ring-set (xs ++ (x ∷ [])) a (byte-of x) s long inside (h .begins i l) here)),
     )
@@ -202,18 +220,18 @@ module _ {capacity : ℕ} {f : ℕ → List Symbol} {store lengths starts : List
         inside = wrapped-below capacity (s + length xs) (omega (arith, room, h .begins i l))
 
         here : (k : ℕ) → k < capacity
-            → getD (set store (i * capacity + a) (byte-of x)) (i * capacity + wrapped capacity (s + k)) 0
+            → getD (set store (from + a) (byte-of x)) (from + wrapped capacity (s + k)) 0
             ≡ getD (laid capacity (xs ++ (x ∷ []))) k 0
         here k m = go (eqb k (length xs)) refl
           where
             go : (t : Bool) → eqb k (length xs) ≡ t
-                → getD (set store (i * capacity + a) (byte-of x)) (i * capacity + wrapped capacity (s + k)) 0
+                → getD (set store (from + a) (byte-of x)) (from + wrapped capacity (s + k)) 0
                 ≡ getD (laid capacity (xs ++ (x ∷ []))) k 0
             go true e =
                 let size = length-laid capacity xs (omega (arith, room)) in
                 rw (
                   eqb-true k (length xs) e,
-                  getD-set-same store (i * capacity + a) (byte-of x) 0 (ring-inside a inside),
+                  getD-set-same store (from + a) (byte-of x) 0 (ring-inside a inside),
                   ← (laid-append capacity xs x room),
                 )
                 (sym (getD-set-same (laid capacity xs) (length xs) (byte-of x) 0 (omega (arith, size, room))))
@@ -221,19 +239,19 @@ module _ {capacity : ℕ} {f : ℕ → List Symbol} {store lengths starts : List
                 let differ : k ≢ length xs = eqb-false k (length xs) e in
                 let off = wrapped-apart capacity s (h .begins i l) k (length xs) m room differ in
                 rw (← (laid-append capacity xs x room), getD-set-other (laid capacity xs) (length xs) k (byte-of x) 0 differ)
-                (getD-set-other store (i * capacity + a) (i * capacity + wrapped capacity (s + k)) (byte-of x) 0
+                (getD-set-other store (from + a) (from + wrapped capacity (s + k)) (byte-of x) 0
                 (λ z. off (omega (arith, z))) ∙ h .stored i l k m)
 
-    pub ring-full : (x : Symbol) → capacity ≤ getD lengths i 0 → Appended capacity f i x false store lengths starts
+    pub ring-full : (x : Symbol) → capacity ≤ getD lengths i 0 → Appended capacities f i x false store lengths starts
     ring-full x long = (rw ring-length at long, h)
 
     pub ring-delete : 0 < getD lengths i 0
-        → Deleted capacity f i xs (getD store (i * capacity + s) 0) (set store (i * capacity + s) 0) (set lengths i (getD lengths i 0 - 1))
+        → Deleted capacities f i xs (getD store (from + s) 0) (set store (from + s) 0) (set lengths i (getD lengths i 0 - 1))
         (set starts i (wrapped capacity (s + 1)))
     ring-delete some = go xs refl
       where
         go : (ys : List Symbol) → xs ≡ ys
-            → Deleted capacity f i ys (getD store (i * capacity + s) 0) (set store (i * capacity + s) 0) (set lengths i
+            → Deleted capacities f i ys (getD store (from + s) 0) (set store (from + s) 0) (set lengths i
             (getD lengths i 0 - 1))
             (set starts i (wrapped capacity (s + 1)))
         go [] e = absurd (omega (arith, ring-length, ap length e))
@@ -254,48 +272,51 @@ module _ {capacity : ℕ} {f : ℕ → List Symbol} {store lengths starts : List
             first : wrapped capacity (s + 0) ≡ s
             first = let z : s + 0 ≡ s = omega arith in rw z (wrapped-low capacity s begins)
 
-            old : (k : ℕ) → k < capacity → getD store (i * capacity + wrapped capacity (s + k)) 0 ≡ getD (laid capacity (x ∷ ys)) k 0
+            old : (k : ℕ) → k < capacity → getD store (from + wrapped capacity (s + k)) 0 ≡ getD (laid capacity (x ∷ ys)) k 0
             old k m = h .stored i l k m ∙ ap (λ (zs : List Symbol). getD (laid capacity zs) k 0) e
 
-            byte-is : getD store (i * capacity + s) 0 ≡ byte-of x
-            byte-is = ap (λ (k : ℕ). getD store (i * capacity + k) 0) (sym first) ∙ old 0 (omega (arith, room))
+            byte-is : getD store (from + s) 0 ≡ byte-of x
+            byte-is = ap (λ (k : ℕ). getD store (from + k) 0) (sym first) ∙ old 0 (omega (arith, room))
 
             here : (k : ℕ) → k < capacity
-                → getD (set store (i * capacity + s) 0) (i * capacity + wrapped capacity (wrapped capacity (s + 1) + k)) 0
+                → getD (set store (from + s) 0) (from + wrapped capacity (wrapped capacity (s + 1) + k)) 0
                 ≡ getD (laid capacity ys) k 0
             here k m = at (ltb (k + 1) capacity) refl
               where
                 at : (t : Bool) → ltb (k + 1) capacity ≡ t
-                    → getD (set store (i * capacity + s) 0) (i * capacity + wrapped capacity (wrapped capacity (s + 1) + k)) 0
+                    → getD (set store (from + s) 0) (from + wrapped capacity (wrapped capacity (s + 1) + k)) 0
                     ≡ getD (laid capacity ys) k 0
                 at true d =
                     let low : k + 1 < capacity = ltb-true (k + 1) capacity d in
                     let off = wrapped-apart capacity s begins (suc k) 0 (omega arith) (omega arith) (λ z. absurd (omega arith)) in
                     rw (wrapped-next capacity s begins k low)
-                    (getD-set-other store (i * capacity + s) (i * capacity + wrapped capacity (s + suc k)) 0 0
+                    (getD-set-other store (from + s) (from + wrapped capacity (s + suc k)) 0 0
                     (λ z. off (omega (arith, z, first)))
                     ∙ old (suc k) (omega arith) ∙ laid-next capacity x ys room k low)
                 at false d =
                     let z : k ≡ capacity - 1 = omega (arith, ltb-false (k + 1) capacity d) in
-                    rw (z, wrapped-last capacity s begins, getD-set-same store (i * capacity + s) 0 0 (ring-inside s begins))
+                    rw (z, wrapped-last capacity s begins, getD-set-same store (from + s) 0 0 (ring-inside s begins))
                     (sym (laid-last capacity x ys room))
 
-    pub ring-empty : getD lengths i 0 ≡ 0 → Deleted capacity f i xs 0 store lengths starts
+    pub ring-empty : getD lengths i 0 ≡ 0 → Deleted capacities f i xs 0 store lengths starts
     ring-empty none = go xs refl
       where
-        go : (ys : List Symbol) → xs ≡ ys → Deleted capacity f i ys 0 store lengths starts
+        go : (ys : List Symbol) → xs ≡ ys → Deleted capacities f i ys 0 store lengths starts
         go [] e = (refl, h)
         go (x ∷ ys) e = absurd (omega (arith, ring-length, ap length e))
 
 -- From the lent store
 
-pub held-ring : {capacity : ℕ} {f : ℕ → List Symbol} {store lengths starts : List ℕ} → Held capacity f store lengths → 1 ≤ capacity
-    → Zeros (length lengths) starts → Ring capacity f store lengths starts
-held-ring {capacity} {f} {store} {lengths} {starts} h some z = record {
-  room = ap length (h .stored) ∙ length-store capacity f (length lengths) (h .fits);
+pub held-ring : {capacities : List ℕ} {f : ℕ → List Symbol} {store lengths starts : List ℕ} → Held capacities f store lengths
+    → ((i : ℕ) → i < length capacities → 1 ≤ getD capacities i 0) → Zeros (length capacities) starts
+    → Ring capacities f store lengths starts
+held-ring {capacities} {f} {store} {lengths} {starts} h some z = record {
+  room = ap length (h .stored) ∙ length-store capacities f (length capacities) (h .fits) ∙ offset-whole capacities;
   enough = z .enough;
   counted = h .counted;
   fits = h .fits;
-  begins = λ i l. rw (z .each i l) some;
-  stored = λ i l k m. let e : 0 + k ≡ k = omega arith in rw (z .each i l, e, wrapped-low capacity k m) (held-byte h i l k m);
+  begins = λ i l. rw (z .each i l) (some i l);
+  stored = λ i l k m.
+      let e : 0 + k ≡ k = omega arith in
+      rw (z .each i l, e, wrapped-low (getD capacities i 0) k m) (held-byte h i l k m);
 }

@@ -6,7 +6,7 @@ use Prim.Native.Nat.{ℕ, suc, _+_, _-_, _≤_}
 use native.Mathlib.Omega.{arith}
 use borrow.Author.Tests.{le-leb, lt-leb}
 use lib.IntN.{ℤ, pos, negsuc, _+ℤ_, _-ℤ_, +ℤ-assoc, +ℤ-comm, +ℤ-negℤ-cancel}
-use lib.ListN.{length}
+use lib.ListN.{length, getD}
 use Rattle.theory.specs.Basics.{put}
 use Rattle.theory.specs.Word as W
 use Rattle.theory.specs.Word.{Symbol, one, hash, byte-of, Instruction, append, forward, backward, cases}
@@ -62,31 +62,31 @@ is-cases (cases n) k e = ap {B = Instruction} cases e
 
 -- What each does, at register r counted from 0
 
-module _ (capacity : ℕ) (f : ℕ → List Symbol) (here : ℕ) (store lengths starts : List ℕ) where
-  pub did-append : (r : ℕ) (x : Symbol) (room : Bool) → Appended capacity f r x room store lengths starts
-      → Performed capacity f here (append x (suc r)) (next-if room here) store lengths starts
+module _ (capacities : List ℕ) (f : ℕ → List Symbol) (here : ℕ) (store lengths starts : List ℕ) where
+  pub did-append : (r : ℕ) (x : Symbol) (room : Bool) → Appended capacities f r x room store lengths starts
+      → Performed capacities f here (append x (suc r)) (next-if room here) store lengths starts
   did-append r x true h = (
     put f (suc r) (f (suc r) ++ (x ∷ [])),
-    rw (le-leb (suc (length (f (suc r)))) capacity (h .0), place-forward here 1),
+    rw (le-leb (suc (length (f (suc r)))) (getD capacities r 0) (h .0), place-forward here 1),
     h .1,
     omega arith,
   )
-  did-append r x false h = (rw (lt-leb (suc (length (f (suc r)))) capacity (omega (arith, h .0))), h .1)
+  did-append r x false h = (rw (lt-leb (suc (length (f (suc r)))) (getD capacities r 0) (omega (arith, h .0))), h .1)
 
-  pub did-forward : (n : ℕ) → n ≤ 600000 → Ring capacity f store lengths starts
-      → Performed capacity f here (forward n) (To (here + n)) store lengths starts
+  pub did-forward : (n : ℕ) → n ≤ 600000 → Ring capacities f store lengths starts
+      → Performed capacities f here (forward n) (To (here + n)) store lengths starts
   did-forward n l h = (f, rw (place-forward here n), h, omega arith)
 
-  pub did-backward : (n : ℕ) → n ≤ here → Ring capacity f store lengths starts
-      → Performed capacity f here (backward n) (To (here - n)) store lengths starts
+  pub did-backward : (n : ℕ) → n ≤ here → Ring capacities f store lengths starts
+      → Performed capacities f here (backward n) (To (here - n)) store lengths starts
   did-backward n l h = (f, rw (place-backward here n l), h, omega arith)
 
-  pub did-cases : (r b : ℕ) → Deleted capacity f r (f (suc r)) b store lengths starts
-      → Performed capacity f here (cases (suc r)) (by-byte b here) store lengths starts
+  pub did-cases : (r b : ℕ) → Deleted capacities f r (f (suc r)) b store lengths starts
+      → Performed capacities f here (cases (suc r)) (by-byte b here) store lengths starts
   did-cases r b = go (f (suc r)) refl
     where
-      go : (ys : List Symbol) → f (suc r) ≡ ys → Deleted capacity f r ys b store lengths starts
-          → Performed capacity f here (cases (suc r)) (by-byte b here) store lengths starts
+      go : (ys : List Symbol) → f (suc r) ≡ ys → Deleted capacities f r ys b store lengths starts
+          → Performed capacities f here (cases (suc r)) (by-byte b here) store lengths starts
       go [] e h = rw (h .0) (f, rw (e, place-forward here 1), h .1, omega arith)
       go (one ∷ xs) e h = rw (h .0) (put f (suc r) xs, rw (e, place-forward here 2), h .1, omega arith)
       go (hash ∷ xs) e h = rw (h .0) (put f (suc r) xs, rw (e, place-forward here 3), h .1, omega arith)

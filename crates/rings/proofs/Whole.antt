@@ -1,5 +1,5 @@
 -- A whole run of instructions that the machine can do: from outside, and from inside.
-use mathlib.Core.Path.{_≡_, refl, sym, ap, ap₂, _∙_, subst, fun-ext}
+use mathlib.Core.Path.{_≡_, refl, ap, ap₂, _∙_}
 use mathlib.Core.Bool.{true}
 use mathlib.Core.Option.{some}
 use mathlib.Core.List.{List}
@@ -10,15 +10,14 @@ use borrow.Author.Tests.{le-leb, lt-leb, ne-eqb}
 use lib.IntN.{ℤ, pos, negsuc}
 use lib.ListN.{length}
 use Rattle.theory.specs.Limits.{last-count}
-use Rattle.theory.specs.Runs.{Outcome, within}
+use Rattle.theory.specs.Runs.{Outcome, within-each}
 use Rattle.theory.specs.Word as W
 use Rattle.theory.specs.Word.{ended-at}
-use Rattle.theory.specs.Machines.{store-of, lengths-of, contents, is-memory, run-word}
+use Rattle.theory.specs.Machines.{capacity-of, contents, is-memory, run-word}
 use Rattle.theory.specs.TurnedDown.{instructions}
 use Rattle.theory.specs.declared.End.the-variants.{Strayed}
 use Rattle.theory.proofs.Budgets.{run-ended, count-within}
 use Rattle.theory.proofs.GoodMemory.{memory-is-good, contents-stored, contents-counted}
-use Rattle.memory.specs.declared.answers.Machine.{Machine}
 use Rattle.memory.specs.declared.answers.Position.{Position}
 use Rattle.memory.specs.declared.answers.Run.{Run}
 use Rattle.rings.specs.declared.runs.Stop.{Stop}
@@ -26,7 +25,7 @@ use Rattle.memory.specs.declared.answers.Ended.the-variants.{Ran}
 use Rattle.word.specs.Answers.{zipped}
 use Rattle.memory.specs.Held.{Held}
 use Rattle.rings.specs.Steps.{Usables, bias, number-of, placed}
-use Rattle.rings.specs.Inside.{Stopped, lent, run-from, ran-to}
+use Rattle.rings.specs.Inside.{Stopped, run-from, ran-to}
 use Rattle.memory.specs.Calls.{Called, memory, position, handed, ran, stands-outside}
 use Rattle.rings.proofs.Instructions.{instructions-length}
 use Rattle.rings.proofs.Outside.{placed-number}
@@ -44,61 +43,39 @@ pub place-inside : (z : ℤ) → 1 ≤ number-of z → placed (bias + number-of 
 place-inside (pos n) h = placed-number (bias + n) (omega arith) ∙ ap pos (omega arith)
 place-inside (negsuc n) h = absurd (omega arith)
 
-module _ (m : Machine) (store lengths : List ℕ) (good : is-memory (memory m store lengths) ≡ true) where
-  pub lent-count : length lengths ≡ m .registers
-  lent-count = memory-is-good (memory m store lengths) good .lengths
-
-  pub lent-good : is-memory (lent (m .capacity) store lengths) ≡ true
-  lent-good =
-      subst (λ (k : ℕ). is-memory (record { count = k; capacity = m .capacity; store = store; lengths = lengths }) ≡ true)
-      (sym lent-count) good
-
-  -- how many registers there are does not change what they hold
-  same-contents : contents (lent (m .capacity) store lengths) ≡ contents (memory m store lengths)
-  same-contents = fun-ext at-each
-    where
-      at-each : (r : ℕ) → contents (lent (m .capacity) store lengths) r ≡ contents (memory m store lengths) r
-      at-each zero = refl
-      at-each (suc i) = refl
-
-  module _ (kinds operands : List ℕ) (u : Usables (m .registers) kinds operands) (p : Position) (budget : ℕ) where
+module _ (capacities store lengths : List ℕ) (good : is-memory (memory capacities store lengths) ≡ true) where
+  module _ (kinds operands : List ℕ) (u : Usables (length capacities) kinds operands) (p : Position) (budget : ℕ) where
     abbrev o : Outcome W.State
-    o = run-word (instructions (zipped kinds operands)) (memory m store lengths) (position p) budget
+    o = run-word (instructions (zipped kinds operands)) (memory capacities store lengths) (position p) budget
 
     pub whole-outside : ended-at (length kinds) (p .place) ≡ some Strayed → handed (stands-outside p) store lengths ≡ ran
-        (memory m store lengths) p o
+        (memory capacities store lengths) p o
     unfolding run-word
     whole-outside h =
-        let g = memory-is-good (memory m store lengths) good in
+        let g = memory-is-good (memory capacities store lengths) good in
         let w = instructions (zipped kinds operands) in
-        let size = instructions-length (m .registers) kinds operands (u .paired) (u .each) in
-        let e = run-ended (W.machine (within (m .capacity)) w) budget (p .steps)
-        (record { place = p .place; registers = contents (memory m store lengths) })
+        let size = instructions-length (length capacities) kinds operands (u .paired) (u .each) in
+        let e = run-ended (W.machine (within-each (capacity-of capacities)) w) budget (p .steps)
+        (record { place = p .place; registers = contents (memory capacities store lengths) })
         Strayed (ap (λ (L : ℕ). ended-at L (p .place)) size ∙ h) in
-        rw (e, contents-stored (memory m store lengths) g, contents-counted (memory m store lengths) g, add-zero)
+        rw (e, contents-stored (memory capacities store lengths) g, contents-counted (memory capacities store lengths) g, add-zero)
 
-    pub whole-is : 1 ≤ number-of (p .place) → run-from kinds operands (lent (m .capacity) store lengths) (bias + number-of (p .place))
-        (p .steps) budget ≡ o
+    pub whole-is : 1 ≤ number-of (p .place) → run-from kinds operands (memory capacities store lengths)
+        (bias + number-of (p .place)) (p .steps) budget ≡ o
     unfolding run-word
-    whole-is h = rw (place-inside (p .place) h, same-contents)
+    whole-is h = rw (place-inside (p .place) h)
 
     pub whole-count : p .steps ≤ last-count → p .steps + o .steps ≤ last-count
     unfolding run-word
-    whole-count l = count-within (W.machine (within (m .capacity)) (instructions (zipped kinds operands))) budget (p .steps)
-        (record { place = p .place; registers = contents (memory m store lengths) }) l
+    whole-count l = count-within (W.machine (within-each (capacity-of capacities)) (instructions (zipped kinds operands))) budget (p .steps)
+        (record { place = p .place; registers = contents (memory capacities store lengths) }) l
 
-    pub whole-stopped : (s : Stop) (store′ lengths′ : List ℕ) → length lengths′ ≡ length lengths
-        → Stopped (λ f. Held (m .capacity) f store′ lengths′) o s
-        → handed (ran-to (p .steps) s) store′ lengths′ ≡ ran (memory m store lengths) p o
-    whole-stopped s store′ lengths′ l h =
-        let c : length lengths′ ≡ m .registers = l ∙ lent-count in
-        let f = o .state .registers in
+    pub whole-stopped : (s : Stop) (store′ lengths′ : List ℕ) → Stopped (λ f. Held capacities f store′ lengths′) o s
+        → handed (ran-to (p .steps) s) store′ lengths′ ≡ ran (memory capacities store lengths) p o
+    whole-stopped s store′ lengths′ h =
         let r : Run = record {
           position = record { place = o .state .place; steps = p .steps + o .steps };
           ended = Ran (o .end)
               (o .steps);
         } in
-        rw (← h .place, ← h .end, ← h .steps)
-        (ap₂ {C = Called} (λ a b. handed r a b)
-        (h .held .stored ∙ ap (λ (n : ℕ). store-of (m .capacity) n f) c)
-        (h .held .counted ∙ ap (λ (n : ℕ). lengths-of n f) c))
+        rw (← h .place, ← h .end, ← h .steps) (ap₂ {C = Called} (λ a b. handed r a b) (h .held .stored) (h .held .counted))

@@ -3,7 +3,7 @@ use mathlib.Core.List.{List}
 use Prim.Native.Nat.{ℕ}
 use Rattle.theory.specs.Basics.{and-then}
 use Rattle.theory.specs.Word.{Entry}
-use Rattle.theory.specs.Machines.{Memory}
+use Rattle.theory.specs.Machines.{Memory, count}
 use Rattle.theory.specs.TurnedDown.{Answer, answer, refuse, run-on}
 use Rattle.memory.specs.declared.answers.Position.{Position}
 use Rattle.memory.specs.Calls.{Called, position, answered}
@@ -15,4 +15,4 @@ usable-table registers t = answer (and-then (first-unusable registers t) (refuse
 
 -- A run: rule 10, then 15 in this sense
 unfoldable pub usable-called : Memory → Position → ℕ → List Entry → Called
-usable-called m p budget t = answered m p (run-on m (position p) budget (usable-table (m .count) t))
+usable-called m p budget t = answered m p (run-on m (position p) budget (usable-table (count m) t))

@@ -5,13 +5,11 @@ use mathlib.Core.List.{List}
 use mathlib.Core.Logic.{_⊎_}
 use Prim.Native.Nat.{ℕ, _+_, _≤_, _<_}
 use lib.Dec.{eqb, ltb, leb}
-use lib.ListN.{length}
-use Rattle.theory.specs.Text.{Bytes}
 use Rattle.theory.specs.Limits.{last-count}
-use Rattle.theory.specs.Runs.{Machine, Outcome, run, within}
+use Rattle.theory.specs.Runs.{Machine, Outcome, run, within-each}
 use Rattle.theory.specs.Word as W
 use Rattle.theory.specs.Word.{Symbol}
-use Rattle.theory.specs.Machines.{Memory, contents}
+use Rattle.theory.specs.Machines.{Memory, capacity-of, contents}
 use Rattle.theory.specs.TurnedDown.{instructions}
 use Rattle.theory.specs.declared.End.{End}
 use Rattle.theory.specs.declared.End.the-variants.{Halted, Strayed, Spent}
@@ -35,16 +33,12 @@ goes-on here last k allowed = ltb bias here && leb here last && ltb k allowed
 abbrev pub end-at : ℕ → ℕ → End
 end-at here last = cond (leb here bias) Strayed (cond (leb here last) Spent (cond (eqb here (last + 1)) Halted Strayed))
 
--- The memory of a lent store, with a register for each length
-abbrev pub lent : ℕ → Bytes → List ℕ → Memory
-lent capacity store lengths = record { count = length lengths; capacity = capacity; store = store; lengths = lengths }
-
 -- The machine of a word that two lists of numbers give, and the run that the definition gives from a place inside
-abbrev pub machine-of : ℕ → List ℕ → List ℕ → Machine W.State
-machine-of capacity kinds operands = W.machine (within capacity) (instructions (zipped kinds operands))
+abbrev pub machine-of : List ℕ → List ℕ → List ℕ → Machine W.State
+machine-of capacities kinds operands = W.machine (within-each (capacity-of capacities)) (instructions (zipped kinds operands))
 
 abbrev pub run-from : List ℕ → List ℕ → Memory → ℕ → ℕ → ℕ → Outcome W.State
-run-from kinds operands m from steps budget = run (machine-of (m .capacity) kinds operands) budget steps (state from (contents m))
+run-from kinds operands m from steps budget = run (machine-of (m .capacities) kinds operands) budget steps (state from (contents m))
 
 -- What a run hands back that began after so many steps and stopped
 abbrev pub ran-to : ℕ → Stop → Run

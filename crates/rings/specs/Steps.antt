@@ -8,9 +8,10 @@ use lib.Dec.{eqb}
 use lib.IntN.{ℤ, pos, negsuc, subℕ}
 use lib.ListN.{length, getD}
 use Rattle.theory.specs.Text.{Bytes}
-use Rattle.theory.specs.Runs.{within}
+use Rattle.theory.specs.Runs.{within-each}
 use Rattle.theory.specs.Word as W
 use Rattle.theory.specs.Word.{Symbol, Instruction, perform}
+use Rattle.theory.specs.Machines.{capacity-of}
 use Rattle.theory.specs.TurnedDown.{names-register}
 use Rattle.rings.specs.declared.effect.Step.{Step}
 use Rattle.rings.specs.declared.effect.Step.the-variants.{To, Full}
@@ -46,12 +47,12 @@ pub record Usables (registers : ℕ) (kinds operands : List ℕ) : Type 0 where
   pub each : (i : ℕ) → i < length kinds → Usable registers (getD kinds i 0) (getD operands i 0)
 
 -- What an instruction did from a place: it went to another, or was full
-abbrev pub Performed : ℕ → (ℕ → List Symbol) → ℕ → Instruction → Step → Bytes → List ℕ → List ℕ → Type 0
-Performed capacity f here i (To there) store lengths starts =
-    (g : ℕ → List Symbol) × (perform (within capacity) (state here f) i ≡ some (state there g)) × Ring capacity g store lengths starts
-    × (there ≤ here + 600000)
-Performed capacity f here i Full store lengths starts =
-    (perform (within capacity) (state here f) i ≡ none) × Ring capacity f store lengths starts
+abbrev pub Performed : List ℕ → (ℕ → List Symbol) → ℕ → Instruction → Step → Bytes → List ℕ → List ℕ → Type 0
+Performed capacities f here i (To there) store lengths starts =
+    (g : ℕ → List Symbol) × (perform (within-each (capacity-of capacities)) (state here f) i ≡ some (state there g))
+    × Ring capacities g store lengths starts × (there ≤ here + 600000)
+Performed capacities f here i Full store lengths starts =
+    (perform (within-each (capacity-of capacities)) (state here f) i ≡ none) × Ring capacities f store lengths starts
 
 -- The byte of the symbol that an append of this kind appends
 abbrev pub symbol-of : ℕ → ℕ

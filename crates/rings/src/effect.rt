@@ -6,7 +6,7 @@ ghost use lib.IntN.{pos, negℤ};
 ghost use lib.ListN.{length};
 ghost use Rattle.theory.specs.Word.{Symbol};
 ghost use Rattle.memory.specs.Held.{Sized};
-ghost use Rattle.rings.specs.Ring.{Ring, Ringed};
+ghost use Rattle.rings.specs.Ring.{Offsets, Ring, Ringed};
 ghost use Rattle.rings.specs.Steps.{Usable, Performed, placed, number-of, symbol-of, next-if, by-byte};
 ghost use Rattle.theory.specs.Word as W;
 use crate::store::append;
@@ -94,22 +94,24 @@ pub fn perform(
     store: &mut [u8],
     lengths: &mut [u16],
     starts: &mut [usize],
-    capacity: usize,
+    offsets: &[usize],
+    capacities: &[u16],
     kind: u8,
     operand: usize,
     here: usize,
 ) -> Step
-    requires { ⌜ Sized capacity (now store) (now lengths) × Ringed capacity (now store) (now lengths) (now starts)
-        × Usable (length (now lengths)) kind operand × (600000 ≤ here) × (here < 2 ^ 31 - 600000) ⌝ }
+    requires { ⌜ Sized (now capacities) (now store) (now lengths) × Ringed (now capacities) (now store) (now lengths) (now starts)
+        × Usable (length (now capacities)) kind operand × (600000 ≤ here) × (here < 2 ^ 31 - 600000)
+        × Offsets (now capacities) (now offsets) ⌝ }
     ensures { λ r. ⌜ ((f : ℕ → List Symbol) (i : W.Instruction) → W.kind i ≡ kind → W.operand i ≡ operand
-        → Ring capacity f (now (store .entry)) (now (lengths .entry)) (now (starts .entry))
-        → Performed capacity f here i r (now (store .exit)) (now (lengths .exit)) (now (starts .exit))) ⌝ }
+        → Ring (now (capacities .entry)) f (now (store .entry)) (now (lengths .entry)) (now (starts .entry))
+        → Performed (now (capacities .entry)) f here i r (now (store .exit)) (now (lengths .exit)) (now (starts .exit))) ⌝ }
 {
     match kind {
         Instruction::FORWARD => Step::To(here + operand),
         Instruction::BACKWARD => Step::To(here - operand),
         Instruction::CASES => by_byte(
-            delete_first(store, lengths, starts, capacity, operand - 1),
+            delete_first(store, lengths, starts, offsets, capacities, operand - 1),
             here,
         ),
         _ => next_if(
@@ -117,7 +119,8 @@ pub fn perform(
                 store,
                 lengths,
                 starts,
-                capacity,
+                offsets,
+                capacities,
                 operand - 1,
                 symbol_of(kind),
             ),

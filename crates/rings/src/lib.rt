@@ -9,7 +9,6 @@ ghost use Rattle.memory.specs.Calls.{memory, handed, refused-at};
 ghost use Rattle.rings.specs.Calls.{usable-called};
 use crate::runs::run_usable;
 use memory::Ended;
-use memory::Machine;
 use memory::Position;
 use memory::Run;
 use memory::is_memory;
@@ -30,7 +29,7 @@ fn turned_down(at: Position, number: u32, place: usize) -> Run
 // Runs a table of numbers on a machine: rule 10, and then 15 at the first entry that the machine cannot do. A number that is missing counts
 // as 0.
 pub fn run(
-    m: Machine,
+    capacities: &[u16],
     store: &mut [u8],
     lengths: &mut [u16],
     at: Position,
@@ -39,14 +38,14 @@ pub fn run(
     budget: u32,
 ) -> Run
     ensures { λ r. ⌜ handed r (now (store .exit)) (now (lengths .exit))
-        ≡ usable-called (memory m (now (store .entry)) (now (lengths .entry))) at budget
+        ≡ usable-called (memory (now (capacities .entry)) (now (store .entry)) (now (lengths .entry))) at budget
         (zipped (now (kinds .entry)) (now (operands .entry))) ⌝ }
 {
-    if !is_memory(m, store, lengths) {
+    if !is_memory(capacities, store, lengths) {
         return turned_down(at, 10, 0);
     }
-    match first_unusable(m.registers, kinds, operands) {
+    match first_unusable(capacities.len(), kinds, operands) {
         Unusable::At(i) => turned_down(at, 15, i),
-        Unusable::Nothing => run_usable(m, store, lengths, at, kinds, operands, budget),
+        Unusable::Nothing => run_usable(capacities, store, lengths, at, kinds, operands, budget),
     }
 }

@@ -8,9 +8,9 @@ ghost use Rattle.theory.specs.Machines.{is-memory};
 ghost use Rattle.theory.specs.TurnedDown.{done};
 ghost use Rattle.word.specs.Answers.{zipped};
 ghost use Rattle.memory.specs.Calls.{memory, handed, called, stands-outside};
-ghost use Rattle.rings.specs.Ring.{Ring, Zeros};
+ghost use Rattle.rings.specs.Ring.{Offsets, Ring, Zeros};
 ghost use Rattle.rings.specs.Steps.{Usables, bias};
-ghost use Rattle.rings.specs.Inside.{Allowance, Stopped, lent, goes-on, end-at, run-from, ran-to};
+ghost use Rattle.rings.specs.Inside.{Allowance, Stopped, goes-on, end-at, run-from, ran-to};
 use crate::effect::BIAS;
 use crate::effect::Step;
 use crate::effect::number;
@@ -20,6 +20,7 @@ use memory::Ended;
 use memory::Machine;
 use memory::Position;
 use memory::Run;
+use memory::offsets;
 use order::put_in_order;
 use theory::End;
 
@@ -80,18 +81,20 @@ fn run_rings(
     store: &mut [u8],
     lengths: &mut [u16],
     starts: &mut [usize],
-    capacity: usize,
+    offsets: &[usize],
+    capacities: &[u16],
     kinds: &[u8],
     operands: &[u32],
     from: usize,
     steps: u32,
     budget: u32,
 ) -> Stop
-    requires { ⌜ (is-memory (lent capacity (now store) (now lengths)) ≡ true) × Zeros (length (now lengths)) (now starts)
-        × Usables (length (now lengths)) (now kinds) (now operands) × (from ≤ bias + length (now kinds) + 1) ⌝ }
-    ensures { λ r. ⌜ Stopped (λ f. Ring capacity f (now (store .exit)) (now (lengths .exit)) (now (starts .exit)))
-        (run-from (now (kinds .entry)) (now (operands .entry)) (lent capacity (now (store .entry)) (now (lengths .entry)))
-        from steps budget) r ⌝ }
+    requires { ⌜ (is-memory (memory (now capacities) (now store) (now lengths)) ≡ true)
+        × Zeros (length (now capacities)) (now starts) × Usables (length (now capacities)) (now kinds) (now operands)
+        × (from ≤ bias + length (now kinds) + 1) × Offsets (now capacities) (now offsets) ⌝ }
+    ensures { λ r. ⌜ Stopped (λ f. Ring (now (capacities .entry)) f (now (store .exit)) (now (lengths .exit)) (now (starts .exit)))
+        (run-from (now (kinds .entry)) (now (operands .entry))
+        (memory (now (capacities .entry)) (now (store .entry)) (now (lengths .entry))) from steps budget) r ⌝ }
 {
     let last = BIAS + kinds.len();
     let allowed = allowance(budget, steps);
@@ -103,7 +106,8 @@ fn run_rings(
             store,
             lengths,
             starts,
-            capacity,
+            offsets,
+            capacities,
             kinds[i],
             operands[i] as usize,
             here,
@@ -145,7 +149,7 @@ fn ran(steps: u32, s: Stop) -> Run
 
 // A run of instructions that the machine can do; the registers are put in order at its end.
 pub fn run_usable(
-    m: Machine,
+    capacities: &[u16],
     store: &mut [u8],
     lengths: &mut [u16],
     at: Position,
@@ -153,9 +157,10 @@ pub fn run_usable(
     operands: &[u32],
     budget: u32,
 ) -> Run
-    requires { ⌜ (is-memory (memory m (now store) (now lengths)) ≡ true) × Usables (m .registers) (now kinds) (now operands) ⌝ }
+    requires { ⌜ (is-memory (memory (now capacities) (now store) (now lengths)) ≡ true)
+        × Usables (length (now capacities)) (now kinds) (now operands) ⌝ }
     ensures { λ r. ⌜ handed r (now (store .exit)) (now (lengths .exit))
-        ≡ called (memory m (now (store .entry)) (now (lengths .entry))) at budget
+        ≡ called (memory (now (capacities .entry)) (now (store .entry)) (now (lengths .entry))) at budget
         (done (zipped (now (kinds .entry)) (now (operands .entry)))) ⌝ }
 {
     let n = number(at.place);
@@ -165,18 +170,20 @@ pub fn run_usable(
     if kinds.len() + 1 < n {
         return strayed(at);
     }
+    let places = offsets(capacities);
     let mut starts = [0usize; Machine::REGISTERS];
     let s = run_rings(
         store,
         lengths,
         &mut starts,
-        m.capacity,
+        &places,
+        capacities,
         kinds,
         operands,
         BIAS + n,
         at.steps,
         budget,
     );
-    put_in_order(store, &starts[0..lengths.len()], m.capacity);
+    put_in_order(store, &starts, capacities);
     ran(at.steps, s)
 }

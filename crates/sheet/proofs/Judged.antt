@@ -1,24 +1,28 @@
 -- Rules 16 to 18: what the code's tests on a line say of the definitions' verdict, row after row, and of the whole sheet.
-use mathlib.Core.Path.{_≡_, refl, sym, ap, ap₂, _∙_}
+use mathlib.Core.Path.{_≡_, refl, sym, ap, _∙_}
 use mathlib.Core.Bool.{Bool, true, false, cond, _&&_}
 use mathlib.Core.Option.{Option, none, some}
 use mathlib.Core.List.{List, [], _∷_, map}
-use Prim.Native.Nat.{ℕ, suc, _+_, _-_, _≤_, _<_, max}
+use Prim.Native.Nat.{ℕ, suc, _-_, _≤_, _<_, max}
 use native.Mathlib.Numerals.{add-one}
 use native.Mathlib.Omega.{arith}
-use lib.ListN.{length, getD}
-use lib.Dec.{eqb, leb, ltb, leb·suc-suc}
-use borrow.Author.Tests.{leb-true, leb-false, le-leb, lt-leb, ltb-true, ltb-false}
-use Rattle.theory.specs.Basics.{or-else, all}
+use lib.ListN.{length, take, getD}
+use lib.Dec.{eqb, leb, ltb}
+use borrow.Author.Tests.{eqb-true, leb-true, leb-false, le-leb, lt-leb, ltb-true, ltb-false, lt-ltb}
+use Rattle.theory.specs.Basics.{all}
 use Rattle.theory.specs.Text.{Bytes, LF, ends-in-LF}
 use Rattle.theory.specs.ProgramText.{above}
 use Rattle.theory.specs.RunSheet.{names, values, distinct}
-use Rattle.theory.specs.TurnedDown.{unless, names-fault, values-fault}
+use Rattle.theory.specs.TurnedDown.{unless, names-fault, within-columns, values-fault}
+use Rattle.theory.proofs.Faults.{and-first, and-second}
 use Rattle.columns.specs.Columns.{padded, is-variable, columns-as}
 use Rattle.columns.proofs.Distinct.{AllBelow, different-below, below-more}
+use Rattle.columns.proofs.Padded.{padded-take}
 use Rattle.columns.proofs.Fitting.{fit-many, fit-padded}
-use Rattle.fields.specs.Fields.{line-of, numbers-of, under}
+use Rattle.fields.specs.declared.Line.{Line}
+use Rattle.fields.specs.Fields.{most, line-of, numbers-of, under}
 use Rattle.fields.proofs.Kept.{kept-all}
+use Rattle.sheet.specs.declared.answers.Fault.{Fault}
 use Rattle.sheet.specs.Answers.{fault-as}
 use Rattle.sheet.specs.Lines.{line-fault, names-line-fault, line-columns, fault-of, is-sheet-size}
 
@@ -33,26 +37,56 @@ numbers-values l = refl
 
 -- A line of values
 
-all-same : (f g : ℕ → Bool) → ((n : ℕ) → f n ≡ g n) → (l : List ℕ) → all f l ≡ all g l
-all-same f g h [] = refl
-all-same f g h (n ∷ l) = ap₂ _&&_ (h n) (all-same f g h l)
+-- Values within their capacities are below what is above any of these
+pub within-below : (capacities : List ℕ) (bound : ℕ) → ((i : ℕ) → getD capacities i 0 < bound) → (ns vs : List ℕ) → length vs ≡ length ns
+    → within-columns capacities ns vs ≡ true → AllBelow bound vs
+unfolding within-columns
+within-below capacities bound h [] [] e low = refl
+within-below capacities bound h [] (v ∷ vs) e low = absurd (omega arith)
+within-below capacities bound h (n ∷ ns) [] e low = refl
+within-below capacities bound h (n ∷ ns) (v ∷ vs) e low =
+    let least : v ≤ getD capacities n 0 = leb-true v _ (and-first (leb v _) _ (rw (add-one n) at low)) in
+    let later : AllBelow bound vs = within-below capacities bound h ns vs (omega arith) (and-second (leb v _) _ low) in
+    rw (lt-ltb v bound (omega (arith, h n))) later
 
--- Above a capacity is not below one more
-pub at-most : (capacity : ℕ) (vs : List ℕ) → all (λ v. ltb v (capacity + 1)) vs ≡ all (λ v. leb v capacity) vs
-at-most capacity = all-same (λ v. ltb v (capacity + 1)) (λ v. leb v capacity) (λ v. rw (add-one capacity, leb·suc-suc v capacity))
+module _ (capacities ns : List ℕ) (bounded : (i : ℕ) → getD capacities i 0 < most) where
+  -- The values of a line that passes, as the code keeps them
+  pub kept-values : (vs : List ℕ) → length ns ≤ 32 → length vs ≡ length ns → AllBelow most vs
+      → take (length ns) (line-of most (some vs) .numbers) ≡ vs
+  unfolding line-of
+  kept-values vs few e h = rw (kept-all most vs h, ← e) (padded-take vs (omega arith))
 
-pub values-judged : (capacity count n : ℕ) (o : Option (List ℕ))
-    → line-fault (line-of (capacity + 1) o) count n ≡ fault-as (values-fault capacity count n o)
-unfolding line-of line-fault
-values-judged capacity count n none = refl
-values-judged capacity count n (some vs) = rw (at-most capacity vs) (go (eqb (length vs) count) (all (λ v. leb v capacity) vs))
-  where
-    go : (same below : Bool) → cond same (cond below (fault-as none) (fault-of 18 n)) (fault-of 16 n)
-        ≡ fault-as (or-else (unless same 16 n) (unless below 18 n))
-    go true true = refl
-    go true false = refl
-    go false true = refl
-    go false false = refl
+  abbrev verdict : ℕ → Option (List ℕ) → Fault
+  verdict n o = line-fault (line-of most o) (length ns) (within-columns capacities ns (take (length ns) (line-of most o .numbers))) n
+
+  values-judged : (n : ℕ) (o : Option (List ℕ)) → length ns ≤ 32 → verdict n o ≡ fault-as (values-fault capacities ns n o)
+  unfolding line-of line-fault
+  values-judged n none few = refl
+  values-judged n (some vs) few = go (eqb (length vs) (length ns)) refl (all (λ v. ltb v most) vs) refl
+    where
+      told : (b : Bool) → cond b (fault-as none) (fault-of 18 n) ≡ fault-as (unless b 18 n)
+      told true = refl
+      told false = refl
+
+      outside : all (λ v. ltb v most) vs ≡ false → length vs ≡ length ns → (b : Bool) → within-columns capacities ns vs ≡ b
+          → within-columns capacities ns vs ≡ false
+      outside f e true h = h ∙ sym (within-below capacities most bounded ns vs e h) ∙ f
+      outside f e false h = h
+
+      go : (same : Bool) → eqb (length vs) (length ns) ≡ same → (below : Bool) → all (λ v. ltb v most) vs ≡ below
+          → verdict n (some vs) ≡ fault-as (values-fault capacities ns n (some vs))
+      go false e below f = rw e
+      go true e false f =
+          let size : length vs ≡ length ns = eqb-true (length vs) (length ns) e in
+          rw (e, f, outside f size (within-columns capacities ns vs) refl)
+      go true e true f =
+          let size : length vs ≡ length ns = eqb-true (length vs) (length ns) e in
+          rw (e, f, kept-values vs few size f) (told (within-columns capacities ns vs))
+
+  -- and of the line that the code has read
+  pub line-judged : (n : ℕ) (o : Option (List ℕ)) (l : Line) (count : ℕ) (low : Bool) → l ≡ line-of most o → length ns ≡ count → count ≤ 32
+      → low ≡ within-columns capacities ns (take count (l .numbers)) → line-fault l count low n ≡ fault-as (values-fault capacities ns n o)
+  line-judged n o l count low read size few e = rw (e, read, ← size) (values-judged n o (omega arith))
 
 -- The line of names
 

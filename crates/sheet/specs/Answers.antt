@@ -6,7 +6,7 @@ use lib.ListN.{length, take, drop}
 use Rattle.theory.specs.Limits
 use Rattle.theory.specs.Text.{Bytes, split-lines}
 use Rattle.theory.specs.RunSheet.{values}
-use Rattle.theory.specs.TurnedDown.{values-fault, names-of, sheet-fault}
+use Rattle.theory.specs.TurnedDown.{values-fault, names-of, sheet-fault-for}
 use Rattle.theory.specs.declared.Refusal.{Refusal}
 use Rattle.columns.specs.Columns.{padded, starts}
 use Rattle.sheet.specs.declared.answers.Names.{Names}
@@ -26,8 +26,8 @@ checked-as none ns rows = record { names = names-record ns; checked = C.Accepted
 checked-as (some r) ns rows = record { names = names-record []; checked = C.Refused r }
 
 -- Every line but the first is a row
-unfoldable pub sheet-answer : ℕ → ℕ → Bytes → Sheet
-sheet-answer capacity K s = checked-as (sheet-fault capacity K s) (names-of (split-lines s)) (length (split-lines s) - 1)
+unfoldable pub sheet-answer : ℕ → List ℕ → Bytes → Sheet
+sheet-answer K capacities s = checked-as (sheet-fault-for K capacities s) (names-of (split-lines s)) (length (split-lines s) - 1)
 
 -- A line of values read
 
@@ -56,12 +56,12 @@ starts-as none ns none = padded []
 starts-as none ns (some vs) = starts ns vs
 starts-as (some r) ns vs = padded []
 
-abbrev pub row-fault : Bytes → Names → ℕ → ℕ → ℕ → Option Refusal
-row-fault s names capacity n at = values-fault capacity (length (columns-of names)) n (values (line-at s at))
+abbrev pub row-fault : Bytes → Names → List ℕ → ℕ → ℕ → Option Refusal
+row-fault s names capacities n at = values-fault capacities (columns-of names) n (values (line-at s at))
 
-unfoldable pub row-answer : Bytes → Names → ℕ → ℕ → ℕ → Row
-row-answer s names capacity n at =
-    let fault = row-fault s names capacity n at in
+unfoldable pub row-answer : Bytes → Names → List ℕ → ℕ → ℕ → Row
+row-answer s names capacities n at =
+    let fault = row-fault s names capacities n at in
     record {
       values = starts-as fault (columns-of names) (values (line-at s at));
       next = after-line s at;

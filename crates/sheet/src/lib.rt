@@ -7,6 +7,7 @@ pub use answers::Fault;
 pub use answers::Names;
 pub use answers::Row;
 pub use answers::Sheet;
+use columns::all_within;
 use columns::named_columns;
 use columns::spread;
 use fields::Line;
@@ -17,7 +18,7 @@ ghost use mathlib.Core.Path.{_≡_};
 ghost use mathlib.Core.Option.{some};
 ghost use mathlib.Core.List.{[]};
 ghost use Prim.Native.Nat.{_≤_, min};
-ghost use lib.ListN.{length, drop};
+ghost use lib.ListN.{length, take, drop};
 ghost use Rattle.theory.specs.Text.{split-lines};
 ghost use Rattle.sheet.specs.Answers.{sheet-answer, row-answer, checked-as, after-line};
 ghost use Rattle.sheet.specs.Lines.{fault-of, line-fault, names-line-fault, Heads, Scans, rows-as, is-sheet-size};
@@ -49,9 +50,9 @@ fn turned_down(number: u32, place: usize) -> Fault
     Fault::Refused(Refusal { number, place })
 }
 
-// Rules 16 and 18, for line `n` of the sheet, of so many columns.
-fn line_fault(line: Line, count: usize, n: usize) -> Fault
-    ensures { λ r. ⌜ r ≡ line-fault line count n ⌝ }
+// Rules 16 and 18, for line `n` of the sheet, of so many columns, whose numbers are within their capacities or aren't.
+fn line_fault(line: Line, count: usize, within: bool, n: usize) -> Fault
+    ensures { λ r. ⌜ r ≡ line-fault line count within n ⌝ }
 {
     if !line.shaped {
         return turned_down(16, n);
@@ -59,7 +60,10 @@ fn line_fault(line: Line, count: usize, n: usize) -> Fault
     if line.count != count {
         return turned_down(16, n);
     }
-    if line.below {
+    if !line.below {
+        return turned_down(18, n);
+    }
+    if within {
         Fault::None
     } else {
         turned_down(18, n)
@@ -100,30 +104,45 @@ fn read_names(sheet: &[u8], variables: usize) -> Heading
     }
 }
 
-// The line that begins at `at`, as line `n` of values.
-fn scan(sheet: &[u8], count: usize, capacity: u32, n: usize, at: usize) -> Scanned
-    ensures { λ r. ⌜ Scans (now (sheet .entry)) count capacity n at r ⌝ }
+// The line that begins at `at`, as line `n` of values. A number that is too large for 32 bits is above any capacity.
+fn scan(
+    sheet: &[u8],
+    columns: [u8; Names::COLUMNS],
+    count: usize,
+    capacities: [u32; Names::COLUMNS],
+    n: usize,
+    at: usize,
+) -> Scanned
+    requires { ⌜ count ≤ 32 ⌝ }
+    ensures { λ r. ⌜ Scans (now (sheet .entry)) (take count columns) capacities n at r ⌝ }
 {
     let from = least(at, sheet.len());
     let end = find(sheet, from, b'\n');
-    let line = read_line(&sheet[from..end], false, capacity as u64 + 1);
+    let line = read_line(&sheet[from..end], false, Line::ABOVE);
     let numbers = line.numbers;
+    let within = all_within(capacities, columns, count, numbers);
     Scanned {
         numbers,
         next: least(end + 1, sheet.len()),
-        fault: line_fault(line, count, n),
+        fault: line_fault(line, count, within, n),
     }
 }
 
 // Every line of values, of which the first begins at `from`.
-fn rows(sheet: &[u8], count: usize, capacity: u32, from: usize) -> Checked
-    requires { ⌜ from ≤ length (now sheet) ⌝ }
-    ensures { λ r. ⌜ r ≡ rows-as capacity count (split-lines (drop from (now (sheet .entry)))) ⌝ }
+fn rows(
+    sheet: &[u8],
+    columns: [u8; Names::COLUMNS],
+    count: usize,
+    capacities: [u32; Names::COLUMNS],
+    from: usize,
+) -> Checked
+    requires { ⌜ (count ≤ 32) × (from ≤ length (now sheet)) ⌝ }
+    ensures { λ r. ⌜ r ≡ rows-as capacities (take count columns) (split-lines (drop from (now (sheet .entry)))) ⌝ }
 {
     let mut at = from;
     let mut n: usize = 2;
     while at < sheet.len() {
-        let line = scan(sheet, count, capacity, n, at);
+        let line = scan(sheet, columns, count, capacities, n, at);
         let found = line.fault;
         match found {
             Fault::None => {}
@@ -161,9 +180,9 @@ fn is_sized(sheet: &[u8]) -> bool
     sheet[sheet.len() - 1] == b'\n'
 }
 
-// Rules 16 to 18 of a whole sheet, for a program of so many variables, at most 32.
-pub fn check(sheet: &[u8], variables: usize, capacity: u32) -> Sheet
-    ensures { λ r. ⌜ r ≡ sheet-answer capacity (min variables 32) (now (sheet .entry)) ⌝ }
+// Rules 16 to 18 of a whole sheet, for a program of so many variables, at most 32, of these capacities.
+pub fn check(sheet: &[u8], variables: usize, capacities: [u32; Names::COLUMNS]) -> Sheet
+    ensures { λ r. ⌜ r ≡ sheet-answer (min variables 32) capacities (now (sheet .entry)) ⌝ }
 {
     if !is_sized(sheet) {
         return refused(Refusal {
@@ -177,31 +196,35 @@ pub fn check(sheet: &[u8], variables: usize, capacity: u32) -> Sheet
         Fault::None => {}
         Fault::Refused(r) => return refused(r),
     }
-    match rows(sheet, head.count, capacity, head.next) {
+    let columns = head.columns;
+    match rows(sheet, columns, head.count, capacities, head.next) {
         Checked::Refused(r) => refused(r),
-        Checked::Accepted(count) => {
-            let columns = head.columns;
-            Sheet {
-                names: Names {
-                    columns,
-                    count: head.count,
-                },
-                checked: Checked::Accepted(count),
-            }
-        }
+        Checked::Accepted(count) => Sheet {
+            names: Names {
+                columns,
+                count: head.count,
+            },
+            checked: Checked::Accepted(count),
+        },
     }
 }
 
 // Line `n` of the sheet, a line of values that begins at byte `at`.
-pub fn row(sheet: &[u8], names: Names, capacity: u32, n: usize, at: usize) -> Row
-    ensures { λ r. ⌜ r ≡ row-answer (now (sheet .entry)) names capacity n at ⌝ }
+pub fn row(
+    sheet: &[u8],
+    names: Names,
+    capacities: [u32; Names::COLUMNS],
+    n: usize,
+    at: usize,
+) -> Row
+    ensures { λ r. ⌜ r ≡ row-answer (now (sheet .entry)) names capacities n at ⌝ }
 {
+    let columns = names.columns;
     let count = least(names.count, Names::COLUMNS);
-    let line = scan(sheet, count, capacity, n, at);
+    let line = scan(sheet, columns, count, capacities, n, at);
     let found = line.fault;
     match found {
         Fault::None => {
-            let columns = names.columns;
             let numbers = line.numbers;
             let values = spread(columns, count, numbers);
             Row {

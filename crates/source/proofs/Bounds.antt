@@ -8,7 +8,7 @@ use Rattle.source.proofs.Program.{few-lines, numbers-length}
 use Rattle.source.proofs.Stepping.{kind-at, first-at, second-at, first-low, second-low, pair-entry}
 use Rattle.theory.specs.ProgramText.{commands}
 
-module _ {l ts es : List ℕ} {line : ℕ} {vs ps : List ℕ} (r : Ready l ts es line vs ps) where
+module _ {l ts es cs : List ℕ} {line : ℕ} {vs ps : List ℕ} (r : Ready l ts es cs line vs ps) where
   abbrev m : ℕ
   m = line - 1
 
@@ -31,6 +31,9 @@ module _ {l ts es : List ℕ} {line : ℕ} {vs ps : List ℕ} (r : Ready l ts es
   -- The variables, and the entries of the passes-left, that the line names
   pub first-in : (first-at l m < length vs) × (first-at l m < 32)
   first-in = omega (arith, first-low l (r .filled .holds) m inside, r .values-are)
+
+  pub capacity-in : first-at l m < length cs
+  capacity-in = omega (arith, first-low l (r .filled .holds) m inside, r .capacities-are)
 
   pub second-in : (second-at l m < length vs) × (second-at l m < 32)
   second-in = omega (arith, second-low l (r .filled .holds) m inside, r .values-are)

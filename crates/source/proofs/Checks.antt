@@ -1,52 +1,43 @@
 -- Rule 9 as the code checks it: a value, an entry of the passes-left, all of them, and the number of loops around the state's line.
-use mathlib.Core.Path.{_≡_, refl, sym, ap, _∙_}
-use mathlib.Core.Bool.{Bool, true, false, _&&_}
+use mathlib.Core.Path.{_≡_, refl, sym, ap, _∙_, fun-ext}
+use mathlib.Core.Bool.{Bool, true, false, cond, _&&_}
 use mathlib.Core.List.{List}
 use Prim.Native.Nat.{ℕ, suc, pred, _+_, _-_, _≤_, _<_}
 use native.Mathlib.Numerals.{add-one}
 use native.Mathlib.Omega.{arith}
-use borrow.Author.Tests.{lt-ltb, le-ltb, le-leb, lt-leb, leb-true, eqb-true}
+use borrow.Author.Tests.{ltb-true, lt-ltb, le-ltb, le-leb, lt-leb}
 use lib.ListN.{length, getD}
-use lib.Dec.{leb, eqb}
-use Rattle.theory.specs.Limits.{most-capacity}
+use lib.Dec.{ltb, leb, eqb}
+use Rattle.theory.specs.Limits.{most-capacity, state-values, state-passes}
 use Rattle.theory.specs.Basics.{all-below}
-use Rattle.theory.specs.ProgramText.{Command, variables, commands}
-use Rattle.theory.specs.Source.{depth}
-use Rattle.theory.specs.Machines.{is-limited}
-use Rattle.theory.specs.TurnedDown.{is-value, is-passes, is-source}
+use Rattle.theory.specs.ProgramText.{Command, Opening, variables, commands}
+use Rattle.theory.specs.Source.{open-at, loops, loop-variable, depth}
+use Rattle.theory.specs.Machines.{capacity-of, is-limited}
+use Rattle.theory.specs.Runs.{register}
+use Rattle.theory.specs.TurnedDown.{are-capacities, is-value, is-passes, is-source}
 use Rattle.theory.proofs.Faults.{and-first, and-second}
+use Rattle.theory.proofs.GoodSource.{capacity-at, limited}
 use Rattle.source.specs.Answers.{source-state}
 use Rattle.source.specs.declared.answers.State.{State}
-use Rattle.source.specs.Lines.{Deep, entry-at, all-values, all-passes}
+use Rattle.source.specs.Lines.{Deep, entry-at, is-value-within, is-passes-within, all-capacities, all-values, all-passes}
+use Rattle.source.specs.Lines.{BoundsOf, Bounded, all-left}
 use Rattle.source.proofs.Program.{depth-last}
 use Rattle.source.proofs.Stepping.{kind-at, of-kind}
 use Rattle.source.proofs.Entries.{closed-depth, off-endloop}
 
-and-true : (b : Bool) → (b && true) ≡ b
-and-true true = refl
-and-true false = refl
+pub named-value : (capacity K i v : ℕ) → i < K → leb v capacity ≡ is-value-within capacity K i v
+named-value capacity K i v h = rw (lt-ltb i K h)
 
-and-false : (b : Bool) → (b && false) ≡ false
-and-false true = refl
-and-false false = refl
+pub unnamed-value : (capacity K i v : ℕ) → K ≤ i → eqb v 0 ≡ is-value-within capacity K i v
+unnamed-value capacity K i v h = rw (le-ltb i K h)
 
-pub named-value : (capacity K i v : ℕ) → i < K → leb v capacity ≡ is-value capacity K i v
-named-value capacity K i v h = rw (lt-ltb i K h) (sym (and-true (leb v capacity)))
-
-pub unnamed-value : (capacity K i v : ℕ) → K ≤ i → eqb v 0 ≡ is-value capacity K i v
-unnamed-value capacity K i v h = rw (le-ltb i K h) (go (eqb v 0) refl)
-  where
-    go : (t : Bool) → eqb v 0 ≡ t → eqb v 0 ≡ (leb v capacity && eqb v 0)
-    go true e = rw (e, eqb-true v 0 e, le-leb 0 capacity (omega arith))
-    go false e = rw e (sym (and-false (leb v capacity)))
-
-pub other-passes : (capacity D d k : ℕ) → D ≤ d → eqb k 0 ≡ is-passes capacity D d k
+pub other-passes : (capacity D d k : ℕ) → D ≤ d → eqb k 0 ≡ is-passes-within capacity D d k
 other-passes capacity D d k h = rw (le-ltb d D h)
 
-pub no-passes : (capacity D d k : ℕ) → d < D → k < 1 → false ≡ is-passes capacity D d k
+pub no-passes : (capacity D d k : ℕ) → d < D → k < 1 → false ≡ is-passes-within capacity D d k
 no-passes capacity D d k h z = rw (lt-ltb d D h, lt-leb 1 k z)
 
-pub some-passes : (capacity D d k : ℕ) → d < D → 1 ≤ k → leb k capacity ≡ is-passes capacity D d k
+pub some-passes : (capacity D d k : ℕ) → d < D → 1 ≤ k → leb k capacity ≡ is-passes-within capacity D d k
 some-passes capacity D d k h z = rw (lt-ltb d D h, le-leb 1 k z)
 
 -- A test of every number below n, from the first on
@@ -82,17 +73,47 @@ module _ (l es : List ℕ) (lines line : ℕ) (d : Deep l es lines line) where
     unfolding entry-at
     depth-other ne = d .enters m inside ∙ (off-endloop l m ne (depth (commands l) (suc m)) ∙ ap (depth (commands l)) (sym from))
 
+-- The tests over lists, as the code makes them, are the definitions'
+module _ (cs : List ℕ) where
+  pub same-capacities : (K : ℕ) → all-capacities cs K ≡ are-capacities K cs
+  unfolding all-capacities
+  same-capacities K = ap (all-below K) (fun-ext λ i. ap (is-limited most-capacity) (sym (capacity-at cs i)))
+
+  same-values : (K : ℕ) (vs : List ℕ) → all-values cs K vs ≡ all-below state-values (λ i. is-value cs K i (getD vs i 0))
+  unfolding all-values
+  same-values K vs =
+      ap (all-below state-values) (fun-ext λ i. ap (λ c. is-value-within c K i (getD vs i 0)) (sym (capacity-at cs i)))
+
+  module _ (os : List Opening) (bs : List ℕ) (h : BoundsOf cs os bs) (ps : List ℕ) where
+    same-entry : (d k : ℕ) → is-passes-within (getD bs d 0) (loops os) d k ≡ is-passes cs os d k
+    same-entry d k = go (ltb d (loops os)) refl
+      where
+        go : (t : Bool) → ltb d (loops os) ≡ t
+            → cond t (is-limited (getD bs d 0) k) (eqb k 0)
+            ≡ cond t (is-limited (capacity-of cs (register (loop-variable os d))) k) (eqb k 0)
+        go true e = ap (λ c. is-limited c k) (h d (ltb-true d (loops os) e) ∙ sym (capacity-at cs (loop-variable os d)))
+        go false e = refl
+
+    same-passes : all-passes bs (loops os) ps ≡ all-below state-passes (λ d. is-passes cs os d (getD ps d 0))
+    unfolding all-passes
+    same-passes = ap (all-below state-passes) (fun-ext λ d. same-entry d (getD ps d 0))
+
+-- The passes-left at a line, by bounds that are filled
+pub left-as : (l : List ℕ) (line : ℕ) (cs bs ps : List ℕ) → Bounded l line cs bs
+    → all-passes bs (depth (commands l) line) ps ≡ all-left (commands l) line cs ps
+unfolding depth all-left
+left-as l line cs bs ps b = same-passes cs (open-at (commands l) line) bs b ps
+
 -- Rule 9, a test after the other. A test that fails is the answer
 abbrev pub limits : List Command → State → Bool
-limits p s = is-limited most-capacity (s .capacity) && is-limited (suc (length p)) (s .line)
+limits p s = all-capacities (s .capacities) (variables p) && is-limited (suc (length p)) (s .line)
 
--- What the first says of the line
+-- What the first says of the line, whatever stands before
+line-within : (most line : ℕ) (t : Bool) → (t && is-limited most line) ≡ true → (0 < line) × (line ≤ most)
+line-within most line t h = limited most line (and-second t (is-limited most line) h)
+
 pub limited-line : (p : List Command) (s : State) → limits p s ≡ true → (0 < s .line) × (s .line ≤ suc (length p))
-limited-line p s h =
-    let line : is-limited (suc (length p)) (s .line) ≡ true = and-second (is-limited most-capacity (s .capacity)) _ h in (
-      leb-true 1 (s .line) (and-first (leb 1 (s .line)) _ line),
-      leb-true (s .line) (suc (length p)) (and-second (leb 1 (s .line)) _ line),
-    )
+limited-line p s = line-within (suc (length p)) (s .line) (all-capacities (s .capacities) (variables p))
 
 module _ (l : List ℕ) (s : State) where
   abbrev p : List Command
@@ -100,23 +121,33 @@ module _ (l : List ℕ) (s : State) where
 
   pub bad-limits : limits p s ≡ false → false ≡ is-source p (source-state s)
   unfolding is-source
-  bad-limits e = rw e
+  bad-limits e =
+      let bad : (are-capacities (variables p) (s .capacities) && is-limited (suc (length p)) (s .line)) ≡ false
+      = rw (same-capacities (s .capacities) (variables p)) at e in
+      rw bad
 
   module _ (good : limits p s ≡ true) where
     -- The values, and then the passes left
-    lists-left : (all-values (s .capacity) (variables p) (s .values) && all-passes (s .capacity) (depth p (s .line)) (s .passes))
+    lists-left : (all-values (s .capacities) (variables p) (s .values) && all-left p (s .line) (s .capacities) (s .passes))
         ≡ is-source p (source-state s)
-    unfolding is-source all-values all-passes
-    lists-left = rw good
+    unfolding is-source all-left
+    lists-left =
+        let fine : (are-capacities (variables p) (s .capacities) && is-limited (suc (length p)) (s .line)) ≡ true
+        = rw (same-capacities (s .capacities) (variables p)) at good in
+        rw (fine, same-values (s .capacities) (variables p) (s .values))
 
-    pub bad-values : all-values (s .capacity) (variables p) (s .values) ≡ false → false ≡ is-source p (source-state s)
+    pub bad-values : all-values (s .capacities) (variables p) (s .values) ≡ false → false ≡ is-source p (source-state s)
     bad-values e = (rw e refl) ∙ lists-left
 
-    pub good-values : all-values (s .capacity) (variables p) (s .values) ≡ true
-        → all-passes (s .capacity) (depth p (s .line)) (s .passes) ≡ is-source p (source-state s)
+    pub good-values : all-values (s .capacities) (variables p) (s .values) ≡ true
+        → all-left p (s .line) (s .capacities) (s .passes) ≡ is-source p (source-state s)
     good-values e = (rw e refl) ∙ lists-left
 
 -- What rule 9 says of the line
 pub good-line : (p : List Command) (s : State) → is-source p (source-state s) ≡ true → (0 < s .line) × (s .line ≤ suc (length p))
 unfolding is-source
-good-line p s h = limited-line p s (and-first _ _ (and-first _ _ h))
+good-line p s h =
+    let sized = are-capacities (variables p) (s .capacities) in
+    let valued = all-below state-values (λ i. is-value (s .capacities) (variables p) i (getD (s .values) i 0)) in
+    let start = sized && is-limited (suc (length p)) (s .line) in
+    line-within (suc (length p)) (s .line) sized (and-first start valued (and-first (start && valued) _ h))

@@ -31,7 +31,7 @@ set-more P l n x room below at m h = go (ℕ-discrete m n)
 -- Entries
 
 -- A kind that is neither `loop` nor `endloop`
-off-loops : (P : Command → Type 0) (l : List ℕ) (m : ℕ) → ((c : Plain) → P (plain c)) → ((i : ℕ) → P (opens while i))
+pub off-loops : (P : Command → Type 0) (l : List ℕ) (m : ℕ) → ((c : Plain) → P (plain c)) → ((i : ℕ) → P (opens while i))
     → ((i : ℕ) → P (closes while i)) → (kind-at l m ≡ 4 → ⊥) → (kind-at l m ≡ 5 → ⊥) → P (command-at l m)
 unfolding command-at
 off-loops P l m p o c four five =

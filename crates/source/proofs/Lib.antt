@@ -2,6 +2,7 @@ pub mod Program
 pub mod Stepping
 pub mod Bounds
 pub mod Entries
+pub mod LoopBounds
 pub mod Targets
 pub mod Underway
 pub mod Checks

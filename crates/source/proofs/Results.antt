@@ -28,11 +28,11 @@ all-zero zero d = refl
 all-zero (suc n) zero = refl
 all-zero (suc n) (suc d) = all-zero n d
 
-pub fresh-back : (capacity : ℕ) (values : List ℕ) → Fresh capacity values (fresh-state capacity values)
-fresh-back capacity values = record {
+pub fresh-back : (capacities values : List ℕ) → Fresh capacities values (fresh-state capacities values)
+fresh-back capacities values = record {
   state = refl;
   stands = ap {B = SourceState}
-      (λ f. record { capacity = capacity; steps = 0; state = record { line = 1; values = λ i. getD values i 0; passes = f } })
+      (λ f. record { capacities = capacities; steps = 0; state = record { line = 1; values = λ i. getD values i 0; passes = f } })
       (fun-ext λ d. all-zero state-passes d);
 }
 
@@ -56,14 +56,14 @@ rule-9-back s budget p e = rw e (refused-back s (record { number = 9; place = 0 
 -- The state where a run stopped
 abbrev pub stopped : State → Stop → List ℕ → List ℕ → State
 stopped s r vs ps =
-    record { capacity = s .capacity; line = r .line; steps = s .steps + r .taken; values = vs; passes = ps }
+    record { capacities = s .capacities; line = r .line; steps = s .steps + r .taken; values = vs; passes = ps }
 
 module _ (l : List ℕ) (s : State) (budget : ℕ) (r : Stop) (vs ps : List ℕ)
-    (ran : run-at l (s .capacity) (s .line) (s .values) (s .passes) (allows budget (s .steps)) ≡ outcome-of r vs ps) where
+    (ran : run-at l (s .capacities) (s .line) (s .values) (s .passes) (allows budget (s .steps)) ≡ outcome-of r vs ps) where
   pub taken-few : r .taken ≤ allows budget (s .steps)
   unfolding run-at
   taken-few =
-      let few : _ = steps-within (machine-of l (s .capacity)) (allows budget (s .steps)) 0 (stands (s .line) (s .values) (s .passes)) in
+      let few : _ = steps-within (machine-of l (s .capacities)) (allows budget (s .steps)) 0 (stands (s .line) (s .values) (s .passes)) in
       rw ran at few
 
   pub run-back : s .steps ≤ last-count → is-source (commands l) (source-state s) ≡ true
@@ -77,6 +77,6 @@ module _ (l : List ℕ) (s : State) (budget : ℕ) (r : Stop) (vs ps : List ℕ)
   run-back counted good v p =
       let from : S.State = stands (s .line) (s .values) (s .passes) in
       let a : ℕ = allows budget (s .steps) in
-      let same : run (machine-of l (s .capacity)) budget (s .steps) from ≡ outcome-of r vs ps =
-      same-allowed (machine-of l (s .capacity)) a budget a (s .steps) 0 from refl (omega arith) ∙ ran in
+      let same : run (machine-of l (s .capacities)) budget (s .steps) from ≡ outcome-of r vs ps =
+      same-allowed (machine-of l (s .capacities)) a budget a (s .steps) 0 from refl (omega arith) ∙ ran in
       rw (good, same) (record { ended = refl; state = rw (cells-of 32 vs v, cells-of 16 ps p) refl; stands = refl })

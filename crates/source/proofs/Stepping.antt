@@ -14,10 +14,12 @@ use lib.Dec.{eqb, leb}
 use Rattle.theory.specs.Limits.{state-values, state-passes, most-index}
 use Rattle.theory.specs.Basics.{at, put}
 use Rattle.theory.specs.ProgramText.{Command, plain, clear, increment, copy, opens, closes, loop, while, indices, above, commands}
-use Rattle.theory.specs.Runs.{within}
+use Rattle.theory.specs.Runs.{register, Room, within-each}
+use Rattle.theory.specs.Machines.{capacity-of}
 use Rattle.theory.specs.Source as S
 use Rattle.theory.specs.Source.{State, set-variable, go-to, perform, end-loop, begin-loop, begin-while}
 use Rattle.theory.proofs.Cells.{put-cases}
+use Rattle.theory.proofs.GoodSource.{capacity-at}
 use Rattle.theory.proofs.Partners.{Known}
 use Rattle.source.specs.Answers.{stands}
 use Rattle.source.specs.Lines.{Holds, decoded, command-at, entry-at, Jump, Reaches, Filled, stored, led, Stepped}
@@ -106,7 +108,7 @@ module _ (l : List ℕ) (h : Holds l) (m : ℕ) (inside : m < length (commands l
       go (no ne) = omega (arith, no-second l h m inside ne)
 
   module _ (es : List ℕ) (fits : getD es m 0 ≡ entry-at l m) where
-    opening-entry : kind-at l m ≡ 4 → (getD es m 0 ≡ S.depth (commands l) (suc m)) × (getD es m 0 < state-passes)
+    pub opening-entry : kind-at l m ≡ 4 → (getD es m 0 ≡ S.depth (commands l) (suc m)) × (getD es m 0 < state-passes)
     unfolding entry-at
     opening-entry e =
         let same : getD es m 0 ≡ S.depth (commands l) (suc m) = rw (of-kind l m 4 e) at fits in
@@ -163,15 +165,26 @@ module _ (p : List Command) (s : State) where
   repeated (suc k) h = refl
 
 -- The step at a line, and its results
-module _ (l : List ℕ) (h : Holds l) (capacity line : ℕ) (low : 0 < line) (high : line ≤ length (commands l)) (vs ps : List ℕ) where
+module _ (l : List ℕ) (h : Holds l) (capacities : List ℕ) (line : ℕ) (low : 0 < line) (high : line ≤ length (commands l))
+    (vs ps : List ℕ) where
   abbrev m : ℕ
   m = line - 1
 
   inside : m < length (commands l)
   inside = omega arith
 
+  abbrev room : Room
+  room = within-each (capacity-of capacities)
+
+  -- The capacity of the first variable of the line
+  abbrev capacity : ℕ
+  capacity = getD capacities (first-at l m) 0
+
+  room-for : (n : ℕ) (t : Bool) → leb n capacity ≡ t → leb n (capacity-of capacities (register (first-at l m))) ≡ t
+  room-for n t e = rw (capacity-at capacities (first-at l m)) e
+
   performs : (c : Command) → command-at l m ≡ c
-      → S.step (within capacity) (commands l) (stands line vs ps) ≡ perform (within capacity) (commands l) (stands line vs ps) c
+      → S.step room (commands l) (stands line vs ps) ≡ perform room (commands l) (stands line vs ps) c
   unfolding S.step
   performs c e =
       let from : line ≡ suc m = omega arith in
@@ -179,45 +192,45 @@ module _ (l : List ℕ) (h : Holds l) (capacity line : ℕ) (low : 0 < line) (hi
       rw fetch
 
   -- A step to the next line, and a full one
-  goes-on : (vs′ ps′ : List ℕ) → S.step (within capacity) (commands l) (stands line vs ps) ≡ some (stands (line + 1) vs′ ps′)
-      → Stepped (commands l) capacity line vs ps (N.At (line + 1)) vs′ ps′
+  goes-on : (vs′ ps′ : List ℕ) → S.step room (commands l) (stands line vs ps) ≡ some (stands (line + 1) vs′ ps′)
+      → Stepped (commands l) capacities line vs ps (N.At (line + 1)) vs′ ps′
   goes-on vs′ ps′ e = record { next = e; inside = omega arith; kept = tt }
 
-  stays : S.step (within capacity) (commands l) (stands line vs ps) ≡ none → Stepped (commands l) capacity line vs ps N.Full vs ps
+  stays : S.step room (commands l) (stands line vs ps) ≡ none → Stepped (commands l) capacities line vs ps N.Full vs ps
   stays e = record { next = e; inside = tt; kept = (refl, refl) }
 
   clears : kind-at l m ≡ 1 → first-at l m < length vs
-      → Stepped (commands l) capacity line vs ps (N.At (line + 1)) (set vs (first-at l m) 0) ps
+      → Stepped (commands l) capacities line vs ps (N.At (line + 1)) (set vs (first-at l m) 0) ps
   clears e i = goes-on (set vs (first-at l m) 0) ps
       (performs (plain (clear (first-at l m))) (of-kind l m 1 e) ∙ ap some (assigns line vs ps (first-at l m) 0 i))
 
   counts : kind-at l m ≡ 2 → first-at l m < length vs → getD vs (first-at l m) 0 < capacity
-      → Stepped (commands l) capacity line vs ps (N.At (line + 1)) (set vs (first-at l m) (getD vs (first-at l m) 0 + 1)) ps
+      → Stepped (commands l) capacities line vs ps (N.At (line + 1)) (set vs (first-at l m) (getD vs (first-at l m) 0 + 1)) ps
   counts e i less =
       let x : ℕ = getD vs (first-at l m) 0 in
-      let room : leb (suc x) capacity ≡ true = le-leb (suc x) capacity less in
+      let fits : _ = room-for (suc x) true (le-leb (suc x) capacity less) in
       goes-on (set vs (first-at l m) (x + 1)) ps
       (performs (plain (increment (first-at l m))) (of-kind l m 2 e)
-      ∙ rw (room, ← add-one x) (ap some (assigns line vs ps (first-at l m) (x + 1) i)))
+      ∙ rw (fits, ← add-one x) (ap some (assigns line vs ps (first-at l m) (x + 1) i)))
 
-  counts-full : kind-at l m ≡ 2 → capacity ≤ getD vs (first-at l m) 0 → Stepped (commands l) capacity line vs ps N.Full vs ps
+  counts-full : kind-at l m ≡ 2 → capacity ≤ getD vs (first-at l m) 0 → Stepped (commands l) capacities line vs ps N.Full vs ps
   counts-full e more =
       let x : ℕ = getD vs (first-at l m) 0 in
-      let room : leb (suc x) capacity ≡ false = lt-leb (suc x) capacity (omega arith) in
-      stays (performs (plain (increment (first-at l m))) (of-kind l m 2 e) ∙ rw room)
+      let fits : _ = room-for (suc x) false (lt-leb (suc x) capacity (omega arith)) in
+      stays (performs (plain (increment (first-at l m))) (of-kind l m 2 e) ∙ rw fits)
 
   copies : kind-at l m ≡ 3 → first-at l m < length vs → getD vs (second-at l m) 0 ≤ capacity
-      → Stepped (commands l) capacity line vs ps (N.At (line + 1)) (set vs (first-at l m) (getD vs (second-at l m) 0)) ps
+      → Stepped (commands l) capacities line vs ps (N.At (line + 1)) (set vs (first-at l m) (getD vs (second-at l m) 0)) ps
   copies e i less =
       let x : ℕ = getD vs (second-at l m) 0 in
       goes-on (set vs (first-at l m) x) ps
       (performs (plain (copy (first-at l m) (second-at l m))) (of-kind l m 3 e)
-      ∙ rw (le-leb x capacity less) (ap some (assigns line vs ps (first-at l m) x i)))
+      ∙ rw (room-for x true (le-leb x capacity less)) (ap some (assigns line vs ps (first-at l m) x i)))
 
-  copies-full : kind-at l m ≡ 3 → capacity < getD vs (second-at l m) 0 → Stepped (commands l) capacity line vs ps N.Full vs ps
+  copies-full : kind-at l m ≡ 3 → capacity < getD vs (second-at l m) 0 → Stepped (commands l) capacities line vs ps N.Full vs ps
   copies-full e more =
       let x : ℕ = getD vs (second-at l m) 0 in
-      stays (performs (plain (copy (first-at l m) (second-at l m))) (of-kind l m 3 e) ∙ rw (lt-leb x capacity more))
+      stays (performs (plain (copy (first-at l m) (second-at l m))) (of-kind l m 3 e) ∙ rw (room-for x false (lt-leb x capacity more)))
 
   -- What the variables of the line hold
   abbrev x : ℕ
@@ -228,8 +241,8 @@ module _ (l : List ℕ) (h : Holds l) (capacity line : ℕ) (low : 0 < line) (hi
 
   -- All plain kinds, as the numbers say what is stored
   abbrev Stores : Stored → Type 0
-  Stores (Stored.Value v) = Stepped (commands l) capacity line vs ps (N.At (line + 1)) (set vs (first-at l m) v) ps
-  Stores Stored.Full = Stepped (commands l) capacity line vs ps N.Full vs ps
+  Stores (Stored.Value v) = Stepped (commands l) capacities line vs ps (N.At (line + 1)) (set vs (first-at l m) v) ps
+  Stores Stored.Full = Stepped (commands l) capacities line vs ps N.Full vs ps
 
   pub stores : kind-at l m ≤ 3 → first-at l m < length vs → Stores (stored (kind-at l m) x y capacity)
   unfolding stored
@@ -265,12 +278,12 @@ module _ (l : List ℕ) (h : Holds l) (capacity line : ℕ) (low : 0 < line) (hi
     jump c e = subst (λ n. Reaches (commands l) n c t) (sym from) (rw e at (tables .jumps m inside))
 
     goes-to : (goal : ℕ) (vs′ ps′ : List ℕ) → Jump (commands l) goal t
-        → S.step (within capacity) (commands l) (stands line vs ps) ≡ some (stands goal vs′ ps′)
-        → Stepped (commands l) capacity line vs ps (N.At t) vs′ ps′
+        → S.step room (commands l) (stands line vs ps) ≡ some (stands goal vs′ ps′)
+        → Stepped (commands l) capacities line vs ps (N.At t) vs′ ps′
     goes-to goal vs′ ps′ j e =
         record { next = e ∙ ap (λ n. some (stands n vs′ ps′)) (sym (j .to)); inside = (j .low, j .high); kept = tt }
 
-    loop-past : kind-at l m ≡ 4 → getD vs (first-at l m) 0 ≡ 0 → Stepped (commands l) capacity line vs ps (N.At t) vs ps
+    loop-past : kind-at l m ≡ 4 → getD vs (first-at l m) 0 ≡ 0 → Stepped (commands l) capacities line vs ps (N.At t) vs ps
     unfolding Reaches
     loop-past e z =
         let c : command-at l m ≡ opens loop (first-at l m) = of-kind l m 4 e in
@@ -278,7 +291,7 @@ module _ (l : List ℕ) (h : Holds l) (capacity line : ℕ) (low : 0 < line) (hi
         (performs (opens loop (first-at l m)) c ∙ rw z)
 
     loop-in : kind-at l m ≡ 4 → (getD vs (first-at l m) 0 ≡ 0 → ⊥) → d < length ps
-        → Stepped (commands l) capacity line vs ps (N.At (line + 1)) vs (set ps d (getD vs (first-at l m) 0))
+        → Stepped (commands l) capacities line vs ps (N.At (line + 1)) vs (set ps d (getD vs (first-at l m) 0))
     loop-in e n b =
         let k : ℕ = getD vs (first-at l m) 0 in
         let entry : d ≡ S.depth (commands l) line =
@@ -292,7 +305,7 @@ module _ (l : List ℕ) (h : Holds l) (capacity line : ℕ) (low : 0 < line) (hi
     closed-entry e = ap (λ n. pred (S.depth (commands l) n)) from ∙ sym (closing-entry l h m inside es (tables .enters m inside) e .0)
 
     loop-ends : kind-at l m ≡ 5 → getD ps d 0 ≤ 1 → d < length ps
-        → Stepped (commands l) capacity line vs ps (N.At (line + 1)) vs (set ps d 0)
+        → Stepped (commands l) capacities line vs ps (N.At (line + 1)) vs (set ps d 0)
     loop-ends e few b =
         let zero-left : pred (getD ps d 0) ≡ 0 = omega arith in
         goes-on vs (set ps d 0)
@@ -300,7 +313,7 @@ module _ (l : List ℕ) (h : Holds l) (capacity line : ℕ) (low : 0 < line) (hi
         ∙ rw (closed-entry e, zero-left, closed-entry e, add-one line) (ap some (entered (suc line) vs ps d 0 b)))
 
     loop-again : kind-at l m ≡ 5 → 1 < getD ps d 0 → d < length ps
-        → Stepped (commands l) capacity line vs ps (N.At t) vs (set ps d (getD ps d 0 - 1))
+        → Stepped (commands l) capacities line vs ps (N.At t) vs (set ps d (getD ps d 0 - 1))
     unfolding Reaches
     loop-again e more b =
         let k : ℕ = getD ps d 0 - 1 in
@@ -312,7 +325,7 @@ module _ (l : List ℕ) (h : Holds l) (capacity line : ℕ) (low : 0 < line) (hi
         ∙ rw (closed-entry e, left, repeated (commands l) (stands line vs ps) k some-left, closed-entry e)
         (ap some (entered (suc (S.opening (commands l) line)) vs ps d k b)))
 
-    while-past : kind-at l m ≡ 6 → getD vs (first-at l m) 0 ≡ 0 → Stepped (commands l) capacity line vs ps (N.At t) vs ps
+    while-past : kind-at l m ≡ 6 → getD vs (first-at l m) 0 ≡ 0 → Stepped (commands l) capacities line vs ps (N.At t) vs ps
     unfolding Reaches
     while-past e z =
         let c : command-at l m ≡ opens while (first-at l m) = of-kind l m 6 e in
@@ -320,13 +333,13 @@ module _ (l : List ℕ) (h : Holds l) (capacity line : ℕ) (low : 0 < line) (hi
         (performs (opens while (first-at l m)) c ∙ rw z)
 
     while-in : kind-at l m ≡ 6 → (getD vs (first-at l m) 0 ≡ 0 → ⊥)
-        → Stepped (commands l) capacity line vs ps (N.At (line + 1)) vs ps
+        → Stepped (commands l) capacities line vs ps (N.At (line + 1)) vs ps
     while-in e n =
         goes-on vs ps
         (performs (opens while (first-at l m)) (of-kind l m 6 e)
         ∙ rw (add-one line) (ap some (held (commands l) (stands line vs ps) (getD vs (first-at l m) 0) n)))
 
-    while-back : command-at l m ≡ closes while (first-at l m) → Stepped (commands l) capacity line vs ps (N.At t) vs ps
+    while-back : command-at l m ≡ closes while (first-at l m) → Stepped (commands l) capacities line vs ps (N.At t) vs ps
     unfolding Reaches
     while-back c =
         goes-to (S.opening (commands l) line) vs ps (jump (closes while (first-at l m)) c) (performs (closes while (first-at l m)) c)
@@ -336,9 +349,9 @@ module _ (l : List ℕ) (h : Holds l) (capacity line : ℕ) (low : 0 < line) (hi
     left = getD ps d 0
 
     abbrev Leads : Led → Type 0
-    Leads r = Stepped (commands l) capacity line vs ps (N.At (r .line)) vs (set ps d (r .left))
+    Leads r = Stepped (commands l) capacities line vs ps (N.At (r .line)) vs (set ps d (r .left))
 
-    unchanged : (n : ℕ) → Stepped (commands l) capacity line vs ps (N.At n) vs ps → Leads (record { line = n; left = left })
+    unchanged : (n : ℕ) → Stepped (commands l) capacities line vs ps (N.At n) vs ps → Leads (record { line = n; left = left })
     unchanged n h = rw (set-getD ps d 0) h
 
     pub leads : 3 < kind-at l m → d < length ps → Leads (led (kind-at l m) x left (line + 1) t)

@@ -19,19 +19,20 @@ abbrev pub stands : ℕ → List ℕ → List ℕ → S.State
 stands line values passes = record { line = line; values = λ i. getD values i 0; passes = λ d. getD passes d 0 }
 
 abbrev pub source-state : State → SourceState
-source-state s = record { capacity = s .capacity; steps = s .steps; state = stands (s .line) (s .values) (s .passes) }
+source-state s = record { capacities = s .capacities; steps = s .steps; state = stands (s .line) (s .values) (s .passes) }
 
 -- "A fresh state has line or place 1, no steps and passes-left all 0"
-abbrev pub fresh-state : ℕ → List ℕ → State
-fresh-state capacity values = record { capacity = capacity; line = 1; steps = 0; values = values; passes = replicate state-passes 0 }
+abbrev pub fresh-state : List ℕ → List ℕ → State
+fresh-state capacities values =
+    record { capacities = capacities; line = 1; steps = 0; values = values; passes = replicate state-passes 0 }
 
 -- The same, as the definitions have it
-abbrev pub fresh-from : ℕ → List ℕ → SourceState
-fresh-from capacity values = record { capacity = capacity; steps = 0; state = fresh-source (λ i. getD values i 0) }
+abbrev pub fresh-from : List ℕ → List ℕ → SourceState
+fresh-from capacities values = record { capacities = capacities; steps = 0; state = fresh-source (λ i. getD values i 0) }
 
-pub record Fresh (capacity : ℕ) (values : List ℕ) (r : State) : Type 0 where
-  pub state : r ≡ fresh-state capacity values
-  pub stands : source-state r ≡ fresh-from capacity values
+pub record Fresh (capacities values : List ℕ) (r : State) : Type 0 where
+  pub state : r ≡ fresh-state capacities values
+  pub stands : source-state r ≡ fresh-from capacities values
 
 -- How it ended
 unfoldable pub ended-by : Answer (Outcome S.State) → Ended
@@ -42,7 +43,7 @@ ended-by (refused x) = E.Refused x
 unfoldable pub state-by : State → Answer (Outcome S.State) → State
 state-by s (done o) =
     record {
-      capacity = s .capacity;
+      capacities = s .capacities;
       line = o .state .line;
       steps = s .steps + o .steps;
       values = cells state-values (o .state .values);
@@ -52,7 +53,7 @@ state-by s (refused x) = s
 
 -- The same, as the definitions have it
 unfoldable pub moved-by : SourceState → Answer (Outcome S.State) → SourceState
-moved-by s (done o) = record { capacity = s .capacity; steps = s .steps + o .steps; state = o .state }
+moved-by s (done o) = record { capacities = s .capacities; steps = s .steps + o .steps; state = o .state }
 moved-by s (refused x) = s
 
 -- A run from s that hands back what the definitions give. `state` fixes every number of it; `stands` says that it is the whole of the

@@ -5,13 +5,15 @@ use mathlib.Core.Option.{Option, none, some}
 use mathlib.Core.List.{List}
 use Prim.Native.Nat.{ℕ, suc, pred, _+_, _-_, _*_, _≤_, _<_}
 use lib.ListN.{length, getD}
-use lib.Dec.{eqb, leb}
-use Rattle.theory.specs.Limits.{state-values, state-passes}
+use lib.Dec.{eqb, ltb, leb}
+use Rattle.theory.specs.Limits.{most-capacity, state-values, state-passes}
 use Rattle.theory.specs.Basics.{all-below}
 use Rattle.theory.specs.ProgramText.{Command, plain, clear, increment, copy, opens, closes, loop, while, list-of, variables, commands}
-use Rattle.theory.specs.Runs.{Machine, Outcome, run, within}
+use Rattle.theory.specs.ProgramText.{Opening}
+use Rattle.theory.specs.Runs.{Machine, Outcome, run, within-each}
 use Rattle.theory.specs.Source as S
-use Rattle.theory.specs.TurnedDown.{is-value, is-passes}
+use Rattle.theory.specs.Machines.{capacity-of, is-limited}
+use Rattle.theory.specs.TurnedDown.{is-passes}
 use Rattle.theory.specs.Claims.{Accepted}
 use Rattle.source.specs.Answers.{stands}
 use Rattle.source.specs.declared.steps.Stored.{Stored}
@@ -94,7 +96,7 @@ pub record Fits (l : List ℕ) (lines : ℕ) (table : List ℕ) : Type 0 where
 
 -- A step
 
--- What a plain command of kind k stores, by what its first variable holds and its second
+-- What a plain command of kind k stores, by what its first variable holds and its second, and the capacity of the first
 unfoldable pub stored : ℕ → ℕ → ℕ → ℕ → Stored
 stored k held source capacity =
     cond (eqb k 1) (Stored.Value 0)
@@ -110,10 +112,11 @@ led k held left next target =
     (record { line = target; left = left })))
 
 -- The tables are filled, the line is one of the program, and the lists are those of a state
-pub record Ready (l targets entries : List ℕ) (line : ℕ) (vs ps : List ℕ) : Type 0 where
+pub record Ready (l targets entries capacities : List ℕ) (line : ℕ) (vs ps : List ℕ) : Type 0 where
   pub filled : Filled l targets entries
   pub low : 0 < line
   pub high : line ≤ length (commands l)
+  pub capacities-are : length capacities ≡ state-values
   pub values-are : length vs ≡ state-values
   pub passes-are : length ps ≡ state-passes
 
@@ -132,28 +135,29 @@ abbrev pub Kept : Next → List ℕ → List ℕ → List ℕ → List ℕ → T
 Kept (N.At n) vs ps vs′ ps′ = Unit {0}
 Kept N.Full vs ps vs′ ps′ = (vs′ ≡ vs) × (ps′ ≡ ps)
 
-pub record Stepped (p : List Command) (capacity line : ℕ) (vs ps : List ℕ) (r : Next) (vs′ ps′ : List ℕ) : Type 0 where
-  pub next : S.step (within capacity) p (stands line vs ps) ≡ next-of r vs′ ps′
+pub record Stepped (p : List Command) (capacities : List ℕ) (line : ℕ) (vs ps : List ℕ) (r : Next) (vs′ ps′ : List ℕ) : Type 0 where
+  pub next : S.step (within-each (capacity-of capacities)) p (stands line vs ps) ≡ next-of r vs′ ps′
   pub inside : Within p r
   pub kept : Kept r vs ps vs′ ps′
 
 -- A run
 
 -- The same, of a program of so many lines; the line may be the one after the last
-pub record Startable (l targets entries : List ℕ) (lines line : ℕ) (vs ps : List ℕ) : Type 0 where
+pub record Startable (l targets entries capacities : List ℕ) (lines line : ℕ) (vs ps : List ℕ) : Type 0 where
   pub filled : Filled l targets entries
   pub lines-are : lines ≡ length (commands l)
   pub low : 0 < line
   pub high : line ≤ suc (length (commands l))
+  pub capacities-are : length capacities ≡ state-values
   pub values-are : length vs ≡ state-values
   pub passes-are : length ps ≡ state-passes
 
-abbrev pub machine-of : List ℕ → ℕ → Machine S.State
-machine-of l capacity = S.machine (within capacity) (commands l)
+abbrev pub machine-of : List ℕ → List ℕ → Machine S.State
+machine-of l capacities = S.machine (within-each (capacity-of capacities)) (commands l)
 
 -- A run of so many steps at most, from a count of 0
-unfoldable pub run-at : List ℕ → ℕ → ℕ → List ℕ → List ℕ → ℕ → Outcome S.State
-run-at l capacity line vs ps allowed = run (machine-of l capacity) allowed 0 (stands line vs ps)
+unfoldable pub run-at : List ℕ → List ℕ → ℕ → List ℕ → List ℕ → ℕ → Outcome S.State
+run-at l capacities line vs ps allowed = run (machine-of l capacities) allowed 0 (stands line vs ps)
 
 -- How it ended, the steps taken, and the state
 abbrev pub outcome-of : Stop → List ℕ → List ℕ → Outcome S.State
@@ -161,11 +165,25 @@ outcome-of r vs ps = record { end = r .end; steps = r .taken; state = stands (r 
 
 -- Rule 9
 
-unfoldable pub all-values : ℕ → ℕ → List ℕ → Bool
-all-values capacity K vs = all-below state-values (λ i. is-value capacity K i (getD vs i 0))
+-- A value by its variable's capacity, and an entry of the passes-left by the capacity of its loop's variable, of D loops
+abbrev pub is-value-within : ℕ → ℕ → ℕ → ℕ → Bool
+is-value-within capacity K i v = cond (ltb i K) (leb v capacity) (eqb v 0)
 
-unfoldable pub all-passes : ℕ → ℕ → List ℕ → Bool
-all-passes capacity D ps = all-below state-passes (λ d. is-passes capacity D d (getD ps d 0))
+abbrev pub is-passes-within : ℕ → ℕ → ℕ → ℕ → Bool
+is-passes-within capacity D d k = cond (ltb d D) (is-limited capacity k) (eqb k 0)
+
+unfoldable pub all-capacities : List ℕ → ℕ → Bool
+all-capacities cs K = all-below K (λ i. is-limited most-capacity (getD cs i 0))
+
+unfoldable pub all-values : List ℕ → ℕ → List ℕ → Bool
+all-values cs K vs = all-below state-values (λ i. is-value-within (getD cs i 0) K i (getD vs i 0))
+
+unfoldable pub all-passes : List ℕ → ℕ → List ℕ → Bool
+all-passes bounds D ps = all-below state-passes (λ d. is-passes-within (getD bounds d 0) D d (getD ps d 0))
+
+-- The passes-left at a line
+unfoldable pub all-left : List Command → ℕ → List ℕ → List ℕ → Bool
+all-left p line capacities ps = all-below state-passes (λ d. is-passes capacities (S.open-at p line) d (getD ps d 0))
 
 -- A line of the program, or the line after its last, where the entries are filled
 pub record Deep (l entries : List ℕ) (lines line : ℕ) : Type 0 where
@@ -175,3 +193,20 @@ pub record Deep (l entries : List ℕ) (lines line : ℕ) : Type 0 where
   pub lines-are : lines ≡ length (commands l)
   pub low : 0 < line
   pub high : line ≤ suc (length (commands l))
+
+-- A line of the program, or the line after its last, where the entries are filled, with the lists of a state
+pub record Bounding (l entries : List ℕ) (line : ℕ) (capacities bounds : List ℕ) : Type 0 where
+  pub holds : Holds l
+  pub enters : Entered l entries
+  pub room : length (commands l) ≤ length entries
+  pub low : 0 < line
+  pub high : line ≤ suc (length (commands l))
+  pub capacities-are : length capacities ≡ state-values
+  pub bounds-are : length bounds ≡ state-passes
+
+-- The capacity of the variable of each loop of these pairs, and of those around the line
+abbrev pub BoundsOf : List ℕ → List Opening → List ℕ → Type 0
+BoundsOf capacities os bounds = (d : ℕ) → d < S.loops os → getD bounds d 0 ≡ getD capacities (S.loop-variable os d) 0
+
+abbrev pub Bounded : List ℕ → ℕ → List ℕ → List ℕ → Type 0
+Bounded l line capacities bounds = BoundsOf capacities (S.open-at (commands l) line) bounds

@@ -4,10 +4,10 @@ ghost use Rattle.source.specs.Answers.{Fresh};
 use theory::End;
 use theory::Refusal;
 
-// Where a run stands: the capacity of every variable, the line, the count of steps, the variables, and the passes left of each loop around
+// Where a run stands: the capacity of each variable, the line, the count of steps, the variables, and the passes left of each loop around
 // the line, by the number of loops around that loop.
 pub struct State {
-    pub capacity: u32,
+    pub capacities: [u32; State::VALUES],
     pub line: u32,
     pub steps: u32,
     pub values: [u32; State::VALUES],
@@ -26,11 +26,11 @@ impl State {
     pub const STEPS: u32 = 4294967295;
 
     // Line 1, no steps, and no passes left.
-    pub fn fresh(capacity: u32, values: [u32; State::VALUES]) -> State
-        ensures { λ r. ⌜ Fresh capacity values r ⌝ }
+    pub fn fresh(capacities: [u32; State::VALUES], values: [u32; State::VALUES]) -> State
+        ensures { λ r. ⌜ Fresh capacities values r ⌝ }
     {
         State {
-            capacity,
+            capacities,
             line: 1,
             steps: 0,
             values,

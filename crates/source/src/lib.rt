@@ -45,6 +45,7 @@ fn run_accepted(list: &[u8], lines: usize, variables: usize, state: State, budge
     if !rule9::is_source(list, &entries, lines, variables, state) {
         return refused(state, NONE_OF_ITS_STATES);
     }
+    let capacities = state.capacities;
     let mut values = state.values;
     let mut passes = state.passes;
     let allowed = least(budget, State::STEPS - state.steps);
@@ -53,7 +54,7 @@ fn run_accepted(list: &[u8], lines: usize, variables: usize, state: State, budge
         &targets,
         &entries,
         lines,
-        state.capacity,
+        &capacities,
         state.line,
         allowed,
         &mut values,
@@ -62,7 +63,7 @@ fn run_accepted(list: &[u8], lines: usize, variables: usize, state: State, budge
     let end = stop.end;
     let steps = state.steps + stop.taken;
     let after = State {
-        capacity: state.capacity,
+        capacities,
         line: stop.line,
         steps,
         values,

@@ -35,7 +35,7 @@ pub struct Stop {
     pub end: End,
 }
 
-// A plain command, by what its variable holds and, of a copy, the variable that is copied.
+// A plain command, by what its variable holds, of a copy what the variable that is copied holds, and the capacity of the first.
 fn store(kind: u8, held: u32, source: u32, capacity: u32) -> Stored
     ensures { λ r. ⌜ r ≡ stored kind held source capacity ⌝ }
 {
@@ -101,14 +101,14 @@ fn step(
     list: &[u8],
     targets: &[u16],
     entries: &[u8],
-    capacity: u32,
+    capacities: &[u32],
     line: u32,
     values: &mut [u32],
     passes: &mut [u32],
 ) -> Next
-    requires { ⌜ Ready (now list) (now targets) (now entries) line (now values) (now passes) ⌝ }
+    requires { ⌜ Ready (now list) (now targets) (now entries) (now capacities) line (now values) (now passes) ⌝ }
     ensures { λ r. ⌜
-        Stepped (commands (now (list .entry))) capacity line
+        Stepped (commands (now (list .entry))) (now (capacities .entry)) line
         (now (values .entry)) (now (passes .entry)) r (now (values .exit)) (now (passes .exit))
         ⌝ }
 {
@@ -118,8 +118,9 @@ fn step(
     let i = list[3 * here + 1] as usize;
     let held = values[i];
     if kind <= COPY {
-        let source = values[list[3 * here + 2] as usize];
-        return match store(kind, held, source, capacity) {
+        let j = list[3 * here + 2] as usize;
+        let source = values[j];
+        return match store(kind, held, source, capacities[i]) {
             Stored::Value(v) => {
                 values[i] = v;
                 Next::At(next)
@@ -140,15 +141,15 @@ pub fn walk(
     targets: &[u16],
     entries: &[u8],
     lines: usize,
-    capacity: u32,
+    capacities: &[u32],
     from: u32,
     allowed: u32,
     values: &mut [u32],
     passes: &mut [u32],
 ) -> Stop
-    requires { ⌜ Startable (now list) (now targets) (now entries) lines from (now values) (now passes) ⌝ }
+    requires { ⌜ Startable (now list) (now targets) (now entries) (now capacities) lines from (now values) (now passes) ⌝ }
     ensures { λ r. ⌜
-        run-at (now (list .entry)) capacity from (now (values .entry)) (now (passes .entry)) allowed
+        run-at (now (list .entry)) (now (capacities .entry)) from (now (values .entry)) (now (passes .entry)) allowed
         ≡ outcome-of r (now (values .exit)) (now (passes .exit))
         ⌝ }
 {
@@ -163,7 +164,7 @@ pub fn walk(
                 end: End::Spent,
             };
         }
-        match step(list, targets, entries, capacity, line, values, passes) {
+        match step(list, targets, entries, capacities, line, values, passes) {
             Next::At(next) => line = next,
             Next::Full => return Stop {
                 line,

@@ -1,4 +1,4 @@
--- A source state as 51 numbers: capacity, line, steps, 32 values, 16 passes-left; and what a run from such numbers hands back.
+-- A source state as 82 numbers: 32 capacities, line, steps, 32 values, 16 passes-left; and what a run from such numbers hands back.
 use mathlib.Core.Path.{_≡_}
 use mathlib.Core.Bool.{cond}
 use mathlib.Core.List.{List, _∷_, _++_}
@@ -10,27 +10,27 @@ use Rattle.theory.specs.ProgramText.{Command}
 use Rattle.theory.specs.Runs.{Outcome}
 use Rattle.theory.specs.Source as S
 use Rattle.theory.specs.TurnedDown.{Answer, done, refused, after, run-from}
-use Rattle.source.specs.Answers.{source-state, fresh-state, ended-by, state-by, moved-by}
+use Rattle.source.specs.Answers.{source-state, ended-by, state-by, moved-by}
 use Rattle.source.specs.declared.answers.State.{State}
 use Rattle.source.specs.declared.answers.Ended.{Ended}
 
 abbrev pub state-numbers : ℕ
-state-numbers = 51
+state-numbers = 82
 
--- The state that 51 numbers are
+-- The state that 82 numbers are
 unfoldable pub state-of : List ℕ → State
 state-of l =
     record {
-      capacity = getD l 0 0;
-      line = getD l 1 0;
-      steps = getD l 2 0;
-      values = take state-values (drop 3 l);
-      passes = take state-passes (drop 35 l);
+      capacities = take state-values l;
+      line = getD l 32 0;
+      steps = getD l 33 0;
+      values = take state-values (drop 34 l);
+      passes = take state-passes (drop 66 l);
     }
 
 -- The numbers of a state
 unfoldable pub numbers-of : State → List ℕ
-numbers-of s = s .capacity ∷ s .line ∷ s .steps ∷ (s .values ++ s .passes)
+numbers-of s = s .capacities ++ (s .line ∷ s .steps ∷ (s .values ++ s .passes))
 
 -- A program run from the numbers lent: another number of them is rule 9, as what they say is
 unfoldable pub run-numbers : List ℕ → ℕ → List Command → Answer (Outcome S.State)
@@ -57,8 +57,19 @@ pub record RunsLent (A : Answer (List Command)) (l : List ℕ) (budget : ℕ) (r
 
 -- What the private functions of this crate say: the state that is run from, and the numbers that are written back
 
+-- Where there are not 82 numbers: a state at line 0, where no program's state stands
+unfoldable pub no-state : State
+no-state =
+    record {
+      capacities = replicate state-values 0;
+      line = 0;
+      steps = 0;
+      values = replicate state-values 0;
+      passes = replicate state-passes 0;
+    }
+
 unfoldable pub lent-state : List ℕ → State
-lent-state l = cond (eqb (length l) state-numbers) (state-of l) (fresh-state 0 (replicate state-values 0))
+lent-state l = cond (eqb (length l) state-numbers) (state-of l) no-state
 
 unfoldable pub kept-numbers : List ℕ → State → List ℕ
 kept-numbers l s = cond (eqb (length l) state-numbers) (numbers-of s) l

@@ -1,15 +1,19 @@
-// A source's state as numbers in one slice: capacity, line, steps, then the values, then the passes-left.
+// A source's state as numbers in one slice: the capacities, line, steps, then the values, then the passes-left.
 use source::State;
 ghost use mathlib.Core.Path.{_≡_};
 ghost use lib.ListN.{length};
 ghost use Rattle.states.specs.Numbers.{lent-state, kept-numbers};
 
-// Where the values and the passes-left begin, and how many numbers a state is.
-const VALUES: usize = 3;
+// Where line and steps stand, where the values and the passes-left begin, and how many numbers a state is.
+const LINE: usize = 32;
 
-const PASSES: usize = 35;
+const STEPS: usize = 33;
 
-const NUMBERS: usize = 51;
+const VALUES: usize = 34;
+
+const PASSES: usize = 66;
+
+const NUMBERS: usize = 82;
 
 // Copies all of one slice into another.
 fn copy(from: &[u32], to: &mut [u32])
@@ -23,23 +27,30 @@ fn copy(from: &[u32], to: &mut [u32])
     }
 }
 
-// The state that the numbers are. Another number of them is no state: it is taken for one of no capacity, which is none of any program's,
-// so that a run from it is refused by rule 9 in its turn.
+// The state that the numbers are. Another number of them is no state: it is taken for one at line 0, which is none of any program's, so
+// that a run from it is refused by rule 9 in its turn.
 pub fn state_of(numbers: &[u32]) -> State
     ensures { λ r. ⌜ r ≡ lent-state (now (numbers .entry)) ⌝ }
 {
+    let mut capacities = [0u32; State::VALUES];
     let mut values = [0u32; State::VALUES];
     let mut passes = [0u32; State::PASSES];
     if numbers.len() != NUMBERS {
-        return State::fresh(0, values);
+        return State {
+            capacities,
+            line: 0,
+            steps: 0,
+            values,
+            passes,
+        };
     }
+    copy(&numbers[0..LINE], &mut capacities);
     copy(&numbers[VALUES..PASSES], &mut values);
     copy(&numbers[PASSES..NUMBERS], &mut passes);
-    let capacity = numbers[0];
-    let line = numbers[1];
-    let steps = numbers[2];
+    let line = numbers[LINE];
+    let steps = numbers[STEPS];
     State {
-        capacity,
+        capacities,
         line,
         steps,
         values,
@@ -54,11 +65,12 @@ pub fn put_state(state: State, numbers: &mut [u32])
     if numbers.len() != NUMBERS {
         return;
     }
+    let capacities = state.capacities;
     let values = state.values;
     let passes = state.passes;
+    copy(&capacities, &mut numbers[0..LINE]);
     copy(&values, &mut numbers[VALUES..PASSES]);
     copy(&passes, &mut numbers[PASSES..NUMBERS]);
-    numbers[0] = state.capacity;
-    numbers[1] = state.line;
-    numbers[2] = state.steps;
+    numbers[LINE] = state.line;
+    numbers[STEPS] = state.steps;
 }

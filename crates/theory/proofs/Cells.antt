@@ -10,7 +10,8 @@ use native.Mathlib.Omega.{arith}
 use lib.ListN.{length, getElem?}
 use lib.Dec.{eqb}
 use borrow.Author.Tests.{eqb-true, eqb-false, eq-eqb, ne-eqb}
-use Rattle.theory.specs.Basics.{at, put, EachOf}
+use Rattle.theory.specs.Basics.{at, put, all, EachOf}
+use Rattle.theory.proofs.Faults.{and-first, and-second}
 
 module _ {A : Type 0} where
   pub put-same : (f : ℕ → A) (i : ℕ) (x : A) → put f i x i ≡ x
@@ -90,6 +91,13 @@ pub each-at : {A : Type 0} (P : A → Type 0) (l : List A) (n : ℕ) (a : A) →
 each-at P [] n a h e = absurd (Option·none-ne-some a e)
 each-at P (x ∷ l) zero a h e = subst P (Option·some-injective x a e) (h .0)
 each-at P (x ∷ l) (suc n) a h e = each-at P l n a (h .1) e
+
+-- and a test passes there, where it passes at each
+pub all-at : {A : Type 0} (f : A → Bool) (l : List A) (n : ℕ) (a : A) → all f l ≡ true → at l n ≡ some a → f a ≡ true
+all-at f l zero a h e = absurd (Option·none-ne-some a e)
+all-at f [] (suc n) a h e = absurd (Option·none-ne-some a e)
+all-at f (x ∷ l) (suc zero) a h e = ap f (sym (Option·some-injective x a e)) ∙ and-first (f x) (all f l) h
+all-at f (x ∷ l) (suc (suc n)) a h e = all-at f l (suc n) a (and-second (f x) (all f l) h) e
 
 -- and something stands at each place within
 getElem-there : {A : Type 0} (l : List A) (n : ℕ) → n < length l → (a : A) × (getElem? l n ≡ some a)

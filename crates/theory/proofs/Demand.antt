@@ -13,8 +13,8 @@ use Rattle.theory.specs.Source as S
 use Rattle.theory.specs.Word as W
 use Rattle.theory.specs.Word.{Instruction}
 use Rattle.theory.specs.Translation.{word, word-of, charge}
-use Rattle.theory.specs.Machines.{fresh-source, fresh-word}
-use Rattle.theory.specs.RunTool.{tool-source, tool-word}
+use Rattle.theory.specs.Machines.{fresh-source, fresh-word, capacity-of}
+use Rattle.theory.specs.RunTool.{tool-capacities, source-on, word-on, tool-source, tool-word}
 use Rattle.theory.specs.Claims.{Ends, SourceRun, WordRun, HoldsValues, Demand3, DemandOfBlocks, DemandOfPrograms, ChargesAsPrinted}
 use Rattle.theory.specs.declared.End.{End}
 use Rattle.theory.specs.declared.End.the-variants.{Halted, Strayed, Spent, Full}
@@ -23,25 +23,19 @@ use Rattle.theory.proofs.Nesting.{well-nested}
 use Rattle.theory.proofs.Joins.{only-end, at-cost}
 use Rattle.theory.proofs.Endings.{ended-stops}
 use Rattle.theory.proofs.Matching.{Roomy}
-use Rattle.theory.proofs.Stops.{Even, here, stop-both, halted-line, word-halts, stuck-halted}
+use Rattle.theory.proofs.Stops.{here, halted-line, word-halts, stuck-halted}
 use Rattle.theory.proofs.Whole.{followed, reached, final-registers}
 
 -- Unlimited registers have the room that the simulation asks for
 
-unlimited-roomy : (K : ℕ) → Roomy unlimited K
-unlimited-roomy K = record { less = λ r n h. refl; in-scratch = λ i n l h. refl; in-counter = λ i n d l h. refl }
-
-unlimited-even : (K : ℕ) → Even unlimited K
-unlimited-even K i j n l l′ h = refl
+unlimited-roomy : (K : ℕ) (w : List Instruction) → Roomy unlimited K w
+unlimited-roomy K w = record { less = λ r n h. refl; in-named = λ q r i n e l k h. refl }
 
 -- Demand 3
 
 module _ (b : Block) (v : ℕ → ℕ) where
-  abbrev R : Roomy unlimited (variables (lines b))
-  R = unlimited-roomy (variables (lines b))
-
-  abbrev E : Even unlimited (variables (lines b))
-  E = unlimited-even (variables (lines b))
+  abbrev R : Roomy unlimited (variables (lines b)) (word b)
+  R = unlimited-roomy (variables (lines b)) (word b)
 
   -- Where the word has ended it has halted, and so has its source
   ended-halted : (m : ℕ) (t : W.State) (e : End) → WordRun (word b) (fresh-word (variables (lines b)) v) m t
@@ -49,13 +43,11 @@ module _ (b : Block) (v : ℕ → ℕ) where
       → (c : ℕ) × (s : S.State) × SourceRun (lines b) (fresh-source v) c s × Ends (S.machine unlimited (lines b)) Halted s × (e ≡ Halted)
   ended-halted m t e g h = ⊎-elim
       (λ y. absurd (Option·none-ne-some e (sym (word-live unlimited (word b) t (y .0) (y .1)) ∙ h)))
-      (λ y. let ends : W.State → Type 0 = Ends (W.machine unlimited (word b)) e in
-      let there : ends (here unlimited b (y .1) (y .2)) = subst ends (y .6) h in
-      ⊎-elim
-      (λ z. (y .0, y .1, y .3, z .0, Option·some-injective e Halted (sym there ∙ z .1)))
-      (λ z. absurd (Option·none-ne-some e (sym (z .1) ∙ there)))
-      (stop-both unlimited b E (y .1) (y .2) (y .5) (y .4) .1))
-      (reached unlimited b R v (λ i l. refl) E m t g)
+      (λ y. ⊎-elim
+      (λ z. (y .0, y .1, y .2, z .0, Option·some-injective e Halted (sym h ∙ z .1)))
+      (λ z. absurd (Option·none-ne-some e (sym (z .1) ∙ h)))
+      (y .3))
+      (reached unlimited b R v (λ i l. refl) m t g)
 
   halts : (c : ℕ) (s : S.State) → SourceRun (lines b) (fresh-source v) c s → Ends (S.machine unlimited (lines b)) Halted s
       → (t : W.State) × WordRun (word b) (fresh-word (variables (lines b)) v) (1 + c) t × Ends (W.machine unlimited (word b)) Halted t
@@ -80,7 +72,7 @@ demand-of-blocks b v = record {
       let same : (m ≡ 1 + x .0) × (t ≡ y .0) = only-end g (y .1) (ends t Halted h) (ends (y .0) Halted (y .2)) in
       (x .0, x .1, x .2, x .3, same .0, λ r l. ap (λ u. u .registers r) (same .1) ∙ y .3 r l);
   goes-on = λ c s g e.
-      let f : _ = followed unlimited b (unlimited-roomy (variables (lines b))) v (λ i l. refl) c s g in
+      let f : _ = followed unlimited b (unlimited-roomy (variables (lines b)) (word b)) v (λ i l. refl) c s g in
       stuck-halted unlimited b (λ r n. refl) s (f .0) (f .2) e;
   stays = λ m t g h. let x : Strayed ≡ Halted = ended-halted b v m t Strayed g h .4 in let y : _≡_ {A = ℕ} 0 1 = cc in omega arith;
 }
@@ -92,7 +84,7 @@ demand-of-programs p a v = subst (λ l. Demand3 l (word (block-of p)) v) (well-n
 
 -- What the run tool prints for both as halted are the unlimited runs, and each is the only one that ends
 pub charges-as-printed : ChargesAsPrinted
-unfolding tool-source tool-word
+unfolding source-on word-on
 charges-as-printed p a v e e′ =
     let w : List Instruction = word-of p in
     let o : Outcome W.State = tool-word p v in
@@ -100,8 +92,8 @@ charges-as-printed p a v e e′ =
     ended-stops (W.machine unlimited w) (word-live unlimited w) in
     let not-spent : o .end ≢ Spent = λ z. let y : _≡_ {A = ℕ} 0 1 = cc in omega arith in
     let not-full : o .end ≢ Full = λ z. let y : _≡_ {A = ℕ} 0 1 = cc in omega arith in
-    let source : _ = source-unlimited p Limits.tool-capacity Limits.tool-source-budget 0 (fresh-source v) in
-    let its-word : _ = word-unlimited w Limits.tool-capacity Limits.tool-word-budget 0 (fresh-word (variables p) v) in
+    let source : _ = source-unlimited p (capacity-of tool-capacities) Limits.tool-source-budget 0 (fresh-source v) in
+    let its-word : _ = word-unlimited w (capacity-of tool-capacities) Limits.tool-word-budget 0 (fresh-word (variables p) v) in
     let charged : _ = at-cost (charge p) (source .0) in
     let halted : _ = demand-of-programs p a v .halts (charged .0) (tool-source p v .state) (charged .1) (source .1 e) in
     let same : (o .steps ≡ 1 + charged .0) × (o .state ≡ halted .0) =

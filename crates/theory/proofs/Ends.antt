@@ -4,7 +4,7 @@ use mathlib.Core.Logic.{_≢_, _⊎_, inl, inr}
 use mathlib.Core.Bool.{Bool, true, false, cond, _&&_}
 use mathlib.Core.Option.{Option, none, some, Option·none-ne-some}
 use mathlib.Core.List.{List}
-use Prim.Native.Nat.{ℕ, suc, _+_, _≤_}
+use Prim.Native.Nat.{ℕ, suc, _+_, _≤_, _<_}
 use native.Mathlib.Omega.{arith}
 use lib.IntN.{ℤ, pos, negsuc}
 use lib.ListN.{length}
@@ -12,12 +12,12 @@ use lib.Dec.{eqb, leb}
 use borrow.Author.Tests.{eqb-false, leb-true, leb-false, ltb-false}
 use Rattle.theory.specs.Limits.{last-count}
 use Rattle.theory.specs.Basics.{at, and-then}
-use Rattle.theory.specs.Runs.{Machine, Outcome, unlimited, within}
+use Rattle.theory.specs.Runs.{register, Room, Machine, Outcome, unlimited, within-each, within}
 use Rattle.theory.specs.ProgramText.{Command}
 use Rattle.theory.specs.Source as S
 use Rattle.theory.specs.Word as W
 use Rattle.theory.specs.Word.{Instruction, append, forward, backward, cases}
-use Rattle.theory.specs.Machines.{run-source, run-word, word-state}
+use Rattle.theory.specs.Machines.{capacity-of, run-source, run-word, word-state}
 use Rattle.theory.specs.Claims.{SourceFull, WordFull, SourceLacksRoom, WordLacksRoom, SpentMeans, SpentRightly}
 use Rattle.theory.specs.declared.End.{End}
 use Rattle.theory.specs.declared.End.the-variants.{Halted, Strayed, Spent}
@@ -30,11 +30,12 @@ use Rattle.theory.proofs.GoodSource.{Stood, source-is-stood, run-stands
 
 -- Full: the source
 
-module _ (p : List Command) (capacity : ℕ) (s : S.State) where
-  lacks : (c : Command) → at p (s .line) ≡ some c → NoRoom (within capacity) s c → SourceLacksRoom p capacity s
+module _ (p : List Command) (capacity : ℕ → ℕ) (s : S.State) where
+  lacks : (c : Command) → at p (s .line) ≡ some c → NoRoom (within-each capacity) s c → SourceLacksRoom p capacity s
   lacks c e (inl (i, c-is, h)) =
-      inl (i, e ∙ ap {B = Option Command} some c-is, leb-false (suc (s .values i)) capacity h)
-  lacks c e (inr (i, j, c-is, h)) = inr (i, j, e ∙ ap {B = Option Command} some c-is, leb-false (s .values j) capacity h)
+      inl (i, e ∙ ap {B = Option Command} some c-is, leb-false (suc (s .values i)) (capacity (register i)) h)
+  lacks c e (inr (i, j, c-is, h)) =
+      inr (i, j, e ∙ ap {B = Option Command} some c-is, leb-false (s .values j) (capacity (register i)) h)
 
   goes : SourceLacksRoom p capacity s → (s′ : S.State) × (S.step unlimited p s ≡ some s′)
   unfolding S.step
@@ -42,27 +43,29 @@ module _ (p : List Command) (capacity : ℕ) (s : S.State) where
   goes (inr (i, j, e, h)) = (S.set-variable s i (s .values j), rw e)
 
   -- at a line of the program, or the one after its last
-  source-stuck : Stood p capacity s → S.machine (within capacity) p .ended s ≡ none → S.step (within capacity) p s ≡ none
-      → SourceLacksRoom p capacity s
+  source-stuck : 0 < s .line → s .line ≤ suc (length p) → S.machine (within-each capacity) p .ended s ≡ none
+      → S.step (within-each capacity) p s ≡ none → SourceLacksRoom p capacity s
   unfolding S.step
-  source-stuck stood live e =
+  source-stuck low high live e =
       let ne : s .line ≢ suc (length p) = eqb-false (s .line) (suc (length p)) (given-none (eqb (s .line) (suc (length p))) Halted live) in
-      let c : (a : Command) × (at p (s .line) ≡ some a) = at-there p (s .line) (stood .line .0) (omega (arith, stood .line .1)) in
-      lacks (c .0) (c .1) (stuck (within capacity) p s (c .0) (sym (ap (λ o. and-then o (S.perform (within capacity) p s)) (c .1)) ∙ e))
+      let c : (a : Command) × (at p (s .line) ≡ some a) = at-there p (s .line) low (omega arith) in
+      let room : Room = within-each capacity in
+      lacks (c .0) (c .1) (stuck room p s (c .0) (sym (ap (λ o. and-then o (S.perform room p s)) (c .1)) ∙ e))
 
 pub source-full : SourceFull
 unfolding run-source
 source-full p accepted s b good h =
-    let M : Machine S.State = S.machine (within (s .capacity)) p in
+    let capacity : ℕ → ℕ = capacity-of (s .capacities) in
+    let M : Machine S.State = S.machine (within-each capacity) p in
     let o : Outcome S.State = run-source p s b in
-    let stops : _ = run-fills M (source-not-full (within (s .capacity)) p) b (s .steps) (s .state) h in
-    let stood : Stood p (s .capacity) (o .state) = run-stands p accepted s b (source-is-stood p s good .1) in
-    let lack : _ = source-stuck p (s .capacity) (o .state) stood (stops .0) (stops .1) in
-    (lack, goes p (s .capacity) (o .state) lack)
+    let stops : _ = run-fills M (source-not-full (within-each capacity) p) b (s .steps) (s .state) h in
+    let stood : Stood p capacity (o .state) = run-stands p accepted s b (source-is-stood p s good .1) in
+    let lack : _ = source-stuck p capacity (o .state) (stood .line .0) (stood .line .1) (stops .0) (stops .1) in
+    (lack, goes p capacity (o .state) lack)
 
 -- Full: the word
 
-module _ (w : List Instruction) (capacity : ℕ) (s : W.State) where
+module _ (w : List Instruction) (capacity : ℕ → ℕ) (s : W.State) where
   -- a place that has not ended is one of the word's
   there : (q : ℤ) → W.ended-at (length w) q ≡ none → (i : Instruction) × (W.fetch w q ≡ some i)
   there (negsuc n) e = absurd (Option·none-ne-some Strayed (sym e))
@@ -76,9 +79,11 @@ module _ (w : List Instruction) (capacity : ℕ) (s : W.State) where
           at-there w n (leb-true 1 n (and-first (leb 1 n) (leb n (length w)) x))
           (leb-true n (length w) (and-second (leb 1 n) (leb n (length w)) x))
 
-  word-lacks : (i : Instruction) → W.fetch w (s .place) ≡ some i → W.perform (within capacity) s i ≡ none → WordLacksRoom w capacity s
+  word-lacks : (i : Instruction) → W.fetch w (s .place) ≡ some i → W.perform (within-each capacity) s i ≡ none
+      → WordLacksRoom w capacity s
   word-lacks (append x n) f e =
-      (x, n, f, leb-false (suc (length (s .registers n))) capacity (given-none (leb (suc (length (s .registers n))) capacity) _ e))
+      let more : ℕ = suc (length (s .registers n)) in
+      (x, n, f, leb-false more (capacity n) (given-none (leb more (capacity n)) _ e))
   word-lacks (forward n) f e = absurd (Option·none-ne-some _ (sym e))
   word-lacks (backward n) f e = absurd (Option·none-ne-some _ (sym e))
   word-lacks (cases n) f e = absurd (Option·none-ne-some _ (sym e))
@@ -87,20 +92,20 @@ module _ (w : List Instruction) (capacity : ℕ) (s : W.State) where
   unfolding W.step
   word-goes (x, n, f, h) = (W.appended n s x, rw f)
 
-  word-stuck : W.machine (within capacity) w .ended s ≡ none → W.step (within capacity) w s ≡ none → WordLacksRoom w capacity s
+  word-stuck : W.machine (within-each capacity) w .ended s ≡ none → W.step (within-each capacity) w s ≡ none → WordLacksRoom w capacity s
   unfolding W.step
   word-stuck live e =
       let i : (i : Instruction) × (W.fetch w (s .place) ≡ some i) = there (s .place) live in
-      word-lacks (i .0) (i .1) (sym (ap (λ o. and-then o (W.perform (within capacity) s)) (i .1)) ∙ e)
+      word-lacks (i .0) (i .1) (sym (ap (λ o. and-then o (W.perform (within-each capacity) s)) (i .1)) ∙ e)
 
 pub word-full : WordFull
 unfolding run-word
 word-full w m p b h =
-    let M : Machine W.State = W.machine (within (m .capacity)) w in
+    let M : Machine W.State = W.machine (within-each (capacity-of (m .capacities))) w in
     let o : Outcome W.State = run-word w m p b in
-    let stops : _ = run-fills M (word-not-full (within (m .capacity)) w) b (p .steps) (word-state m p) h in
-    let lack : _ = word-stuck w (m .capacity) (o .state) (stops .0) (stops .1) in
-    (lack, word-goes w (m .capacity) (o .state) lack)
+    let stops : _ = run-fills M (word-not-full (within-each (capacity-of (m .capacities))) w) b (p .steps) (word-state m p) h in
+    let lack : _ = word-stuck w (capacity-of (m .capacities)) (o .state) (stops .0) (stops .1) in
+    (lack, word-goes w (capacity-of (m .capacities)) (o .state) lack)
 
 -- Spent, of a machine whose states never end so by themselves
 spent-means : {S : Type 0} (M : Machine S) → ((s : S) → M .ended s ≢ some Spent) → SpentMeans M
@@ -121,6 +126,6 @@ spent-means {S} M never = run-induction M Means (record {
 
 pub spent-rightly : SpentRightly
 spent-rightly = (
-  λ p capacity. spent-means (S.machine (within capacity) p) (source-not-spent (within capacity) p),
-  λ w capacity. spent-means (W.machine (within capacity) w) (word-not-spent (within capacity) w),
+  λ p capacity. spent-means (S.machine (within-each capacity) p) (source-not-spent (within-each capacity) p),
+  λ w capacity. spent-means (W.machine (within-each capacity) w) (word-not-spent (within-each capacity) w),
 )

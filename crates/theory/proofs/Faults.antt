@@ -1,6 +1,6 @@
 -- What it says that a rule turns nothing down: laws of the answers and tests that the rules are written with.
 use mathlib.Core.Path.{_≡_, refl}
-use mathlib.Core.Bool.{Bool, true, false, _&&_, _||_}
+use mathlib.Core.Bool.{Bool, true, false, not, _&&_, _||_}
 use mathlib.Core.Option.{Option, none, some, Option·none-ne-some}
 use Prim.Native.Nat.{ℕ}
 use Rattle.theory.specs.Basics.{given, or-else, and-then}
@@ -53,6 +53,14 @@ and-first false b h = h
 pub and-second : (a b : Bool) → (a && b) ≡ true → b ≡ true
 and-second true b h = h
 and-second false b h = cc
+
+pub or-given : (a b : Bool) → (not a || b) ≡ true → a ≡ true → b ≡ true
+or-given true b h g = h
+or-given false b h g = cc
+
+pub or-true : (a b : Bool) → b ≡ true → (a || b) ≡ true
+or-true true b h = refl
+or-true false b h = h
 
 pub or-first : (a b : Bool) → (a || b) ≡ false → a ≡ false
 or-first true b h = h

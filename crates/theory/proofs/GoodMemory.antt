@@ -4,8 +4,7 @@ use mathlib.Core.Logic.{_≢_}
 use mathlib.Core.Bool.{Bool, true, false, _&&_, false≢true}
 use mathlib.Core.Option.{Option, none, some, Option·none-ne-some, Option·some-injective}
 use mathlib.Core.List.{List, [], _∷_, _++_, map}
-use Prim.Native.Nat.{ℕ, zero, suc, _+_, _-_, _*_, _≤_, _<_}
-use native.Mathlib.Nat.{suc-mul, mul-le-mul-right, suc-sub-suc, sub-zero, zero-mul}
+use Prim.Native.Nat.{ℕ, zero, suc, _+_, _-_, _≤_, _<_}
 use native.Mathlib.Omega.{arith}
 use lib.IntN.{ℤ, pos, negsuc}
 use lib.ListN.{length, getD, take, drop, replicate, length-append, length-map, length-replicate, length-take, length-drop}
@@ -13,18 +12,19 @@ use lib.ListN.{take-append-drop, List·getD-eq-default}
 use lib.Seq.{take-at, drop-at, take-all, take-append-le, drop-append-le, take-add, take-length, length-take-le, ext-getD}
 use lib.Dec.{eqb, ltb, leb}
 use borrow.Author.Tests.{eqb-true, eqb-false, eq-eqb, leb-true, le-leb, ltb-true, ltb-false}
-use Rattle.theory.specs.Basics.{cells, put, and-then, all, all-below, EachOf}
+use Rattle.theory.specs.Basics.{cells, put, and-then, sum, all, all-below, EachOf}
 use Rattle.theory.specs.Text.{Bytes}
 use Rattle.theory.specs.Limits.{most-registers, most-capacity}
-use Rattle.theory.specs.Runs.{within}
+use Rattle.theory.specs.Runs.{Room, within-each}
 use Rattle.theory.specs.Word as W
 use Rattle.theory.specs.Word.{Symbol, one, hash, bytes-of, byte-of, symbol-of, is-symbol}
 use Rattle.theory.specs.Word.{Instruction, append, forward, backward, cases, operand}
-use Rattle.theory.specs.Machines.{Memory, Position, offset, laid, store-of, lengths-of, place-of, contents, refilled}
-use Rattle.theory.specs.Machines.{is-laid, is-limited, is-memory, run-word, word-state}
-use Rattle.theory.specs.Claims.{NamesAtMost, MemoryStaysGood}
+use Rattle.theory.specs.Machines.{Memory, count, Position, capacity-of, offset, laid, store-of, lengths-of, place-of, contents}
+use Rattle.theory.specs.Machines.{refilled, is-laid, is-limited, is-memory, run-word, word-state}
+use Rattle.theory.specs.Claims.{NamesAtMost, MemoryStaysGood, RefilledWithItsContents}
 use Rattle.theory.proofs.Faults.{and-first, and-second, given-some}
 use Rattle.theory.proofs.Cells.{put-ind, each-at}
+use Rattle.theory.proofs.Offsets.{offset-next, offset-whole, places-apart, place-inside}
 use Rattle.theory.proofs.Budgets.{run-keeps}
 use Rattle.theory.proofs.Words.{symbols-of-bytes, byte-of-symbol}
 
@@ -133,240 +133,258 @@ module _ (capacity n : ℕ) (b : Bytes) (size : length b ≡ capacity) (h : is-l
 
 -- The whole store
 
--- The first n registers hold no more than the capacity
-abbrev pub Fits : ℕ → ℕ → (ℕ → List Symbol) → Type 0
-Fits capacity n f = (i : ℕ) → i < n → length (f (suc i)) ≤ capacity
+-- The first n registers hold no more than their capacities
+abbrev pub Fits : List ℕ → ℕ → (ℕ → List Symbol) → Type 0
+Fits capacities n f = (i : ℕ) → i < n → length (f (suc i)) ≤ getD capacities i 0
 
-module _ (capacity : ℕ) (f : ℕ → List Symbol) where
-  pub length-store : (n : ℕ) → Fits capacity n f → length (store-of capacity n f) ≡ n * capacity
+module _ (capacities : List ℕ) (f : ℕ → List Symbol) where
+  pub length-store : (n : ℕ) → Fits capacities n f → length (store-of capacities n f) ≡ offset capacities (suc n)
   unfolding store-of
-  length-store zero fits = omega arith
+  length-store zero fits = refl
   length-store (suc n) fits =
       let before = length-store n (λ i l. fits i (omega arith)) in
-      let last = length-laid capacity (f (suc n)) (fits n (omega arith)) in
-      rw (length-append, before, last, suc-mul n capacity)
+      let last = length-laid (getD capacities n 0) (f (suc n)) (fits n (omega arith)) in
+      rw (length-append, before, last) (sym (offset-next capacities n))
 
-  pub place-in-store : (n : ℕ) → Fits capacity n f → (i : ℕ) → i < n
-      → take capacity (drop (i * capacity) (store-of capacity n f)) ≡ laid capacity (f (suc i))
+  pub place-in-store : (n : ℕ) → Fits capacities n f → (i : ℕ) → i < n
+      → take (getD capacities i 0) (drop (offset capacities (suc i)) (store-of capacities n f)) ≡ laid (getD capacities i 0) (f (suc i))
   unfolding store-of
   place-in-store zero fits i l = absurd (omega arith)
   place-in-store (suc n) fits i l = go (place-in-store n fits-before i) (eqb i n) refl
     where
-      fits-before : Fits capacity n f
+      fits-before : Fits capacities n f
       fits-before i l = fits i (omega arith)
 
-      size : length (store-of capacity n f) ≡ n * capacity
+      before : Bytes
+      before = store-of capacities n f
+
+      size : length before ≡ offset capacities (suc n)
       size = length-store n fits-before
 
-      go : (i < n → take capacity (drop (i * capacity) (store-of capacity n f)) ≡ laid capacity (f (suc i))) → (t : Bool) → eqb i n ≡ t
-          → take capacity (drop (i * capacity) (store-of capacity n f ++ laid capacity (f (suc n)))) ≡ laid capacity (f (suc i))
-      go before true e =
-          let last : length (laid capacity (f (suc n))) ≡ capacity = length-laid capacity (f (suc n)) (fits n (omega arith)) in
-          rw (eqb-true i n e, drop-at (store-of capacity n f) (laid capacity (f (suc n))) (n * capacity) size)
-          (take-all capacity (laid capacity (f (suc n))) (omega arith))
-      go before false e =
+      last : Bytes
+      last = laid (getD capacities n 0) (f (suc n))
+
+      from : ℕ
+      from = offset capacities (suc i)
+
+      go : (i < n → take (getD capacities i 0) (drop from before) ≡ laid (getD capacities i 0) (f (suc i))) → (t : Bool) → eqb i n ≡ t
+          → take (getD capacities i 0) (drop from (before ++ last)) ≡ laid (getD capacities i 0) (f (suc i))
+      go earlier true e =
+          let whole : length last ≡ getD capacities n 0 = length-laid (getD capacities n 0) (f (suc n)) (fits n (omega arith)) in
+          rw (eqb-true i n e, drop-at before last (offset capacities (suc n)) size) (take-all (getD capacities n 0) last (omega arith))
+      go earlier false e =
           let differ : i ≢ n = eqb-false i n e in
           let below : i < n = omega arith in
-          let room : i * capacity + capacity ≤ n * capacity = omega (arith, mul-le-mul-right capacity below) in
-          let inside : i * capacity ≤ length (store-of capacity n f) = omega (arith, size) in
-          let whole : capacity ≤ length (drop (i * capacity) (store-of capacity n f)) = simp (length-drop, size) (omega arith) in
-          rw (drop-append-le (i * capacity) (store-of capacity n f) (laid capacity (f (suc n))) inside)
-          (rw (take-append-le capacity (drop (i * capacity) (store-of capacity n f)) (laid capacity (f (suc n))) whole) (before below))
+          let room : from + getD capacities i 0 ≤ offset capacities (suc n) = places-apart capacities i n below in
+          let inside : from ≤ length before = omega (arith, size) in
+          let whole : getD capacities i 0 ≤ length (drop from before) = simp (length-drop, size) (omega arith) in
+          rw (drop-append-le from before last inside)
+          (rw (take-append-le (getD capacities i 0) (drop from before) last whole) (earlier below))
 
 -- Memories
 
-pub offset-suc : (capacity i : ℕ) → offset capacity (suc i) ≡ i * capacity
-offset-suc capacity i = rw (suc-sub-suc, sub-zero)
-
 -- What rule 10 asks, a fact at a time
 pub record Good (m : Memory) : Type 0 where
-  pub registers : is-limited most-registers (m .count) ≡ true
-  pub capacity : is-limited most-capacity (m .capacity) ≡ true
-  pub store : length (m .store) ≡ m .count * m .capacity
-  pub lengths : length (m .lengths) ≡ m .count
-  pub places : (i : ℕ) → i < m .count → is-laid (m .capacity) (getD (m .lengths) i 0) (place-of m (suc i)) ≡ true
+  pub registers : is-limited most-registers (count m) ≡ true
+  pub capacities : all (is-limited most-capacity) (m .capacities) ≡ true
+  pub store : length (m .store) ≡ sum (m .capacities)
+  pub lengths : length (m .lengths) ≡ count m
+  pub places : (i : ℕ) → i < count m → is-laid (getD (m .capacities) i 0) (getD (m .lengths) i 0) (place-of m (suc i)) ≡ true
 
 module _ (m : Memory) where
   abbrev sized : Bool
-  sized = eqb (length (m .store)) (offset (m .capacity) (suc (m .count)))
+  sized = eqb (length (m .store)) (offset (m .capacities) (suc (count m)))
 
   abbrev counted : Bool
-  counted = eqb (length (m .lengths)) (m .count)
+  counted = eqb (length (m .lengths)) (count m)
 
   abbrev laid-out : ℕ → Bool
-  laid-out i = is-laid (m .capacity) (getD (m .lengths) i 0) (place-of m (suc i))
+  laid-out i = is-laid (getD (m .capacities) i 0) (getD (m .lengths) i 0) (place-of m (suc i))
 
   pub good-is-memory : Good m → is-memory m ≡ true
   unfolding is-memory
   good-is-memory g =
-      let whole = g .store ∙ sym (offset-suc (m .capacity) (m .count)) in
-      let size = eq-eqb (length (m .store)) (offset (m .capacity) (suc (m .count))) whole in
-      let counts = eq-eqb (length (m .lengths)) (m .count) (g .lengths) in
-      rw (g .registers, g .capacity, size, counts) (all-below-from (m .count) laid-out (g .places))
+      let whole = g .store ∙ sym (offset-whole (m .capacities)) in
+      let size = eq-eqb (length (m .store)) (offset (m .capacities) (suc (count m))) whole in
+      let counts = eq-eqb (length (m .lengths)) (count m) (g .lengths) in
+      rw (g .registers, g .capacities, size, counts) (all-below-from (count m) laid-out (g .places))
 
   pub memory-is-good : is-memory m ≡ true → Good m
   unfolding is-memory AllFive
   memory-is-good h =
-      let limited = is-limited most-registers (m .count) in
-      let limited′ = is-limited most-capacity (m .capacity) in
-      let parts = and-five limited limited′ sized counted (all-below (m .count) laid-out) h in
-      let size = eqb-true (length (m .store)) (offset (m .capacity) (suc (m .count))) (parts .2) in
+      let limited = is-limited most-registers (count m) in
+      let limited′ = all (is-limited most-capacity) (m .capacities) in
+      let parts = and-five limited limited′ sized counted (all-below (count m) laid-out) h in
+      let size = eqb-true (length (m .store)) (offset (m .capacities) (suc (count m))) (parts .2) in
       record {
         registers = parts .0;
-        capacity = parts .1;
-        store = size ∙ offset-suc (m .capacity) (m .count);
-        lengths = eqb-true (length (m .lengths)) (m .count) (parts .3);
-        places = all-below-at (m .count) laid-out (parts .4);
+        capacities = parts .1;
+        store = size ∙ offset-whole (m .capacities);
+        lengths = eqb-true (length (m .lengths)) (count m) (parts .3);
+        places = all-below-at (count m) laid-out (parts .4);
       }
 
 -- Registers that fit, laid down: they are read back, and the memory is good
-module _ (m : Memory) (f : ℕ → List Symbol) (fits : Fits (m .capacity) (m .count) f) where
-  refilled-place : (i : ℕ) → i < m .count → place-of (refilled m f) (suc i) ≡ laid (m .capacity) (f (suc i))
-  refilled-place i l = rw (offset-suc (m .capacity) i) (place-in-store (m .capacity) f (m .count) fits i l)
+module _ (m : Memory) (f : ℕ → List Symbol) (fits : Fits (m .capacities) (count m) f) where
+  refilled-place : (i : ℕ) → i < count m → place-of (refilled m f) (suc i) ≡ laid (getD (m .capacities) i 0) (f (suc i))
+  refilled-place i l = place-in-store (m .capacities) f (count m) fits i l
 
-  refilled-length : (i : ℕ) → i < m .count → getD (refilled m f .lengths) i 0 ≡ length (f (suc i))
-  refilled-length i l = getD-cells (m .count) (λ j. length (f (suc j))) 0 i l
+  refilled-length : (i : ℕ) → i < count m → getD (refilled m f .lengths) i 0 ≡ length (f (suc i))
+  refilled-length i l = getD-cells (count m) (λ j. length (f (suc j))) 0 i l
 
-  pub contents-refilled : (i : ℕ) → i < m .count → contents (refilled m f) (suc i) ≡ f (suc i)
-  contents-refilled i l = rw (refilled-length i l, refilled-place i l, take-laid (m .capacity) (f (suc i))) (symbols-of-bytes (f (suc i)))
+  pub contents-refilled : (i : ℕ) → i < count m → contents (refilled m f) (suc i) ≡ f (suc i)
+  contents-refilled i l =
+      rw (refilled-length i l, refilled-place i l, take-laid (getD (m .capacities) i 0) (f (suc i))) (symbols-of-bytes (f (suc i)))
 
-  pub refilled-good : is-limited most-registers (m .count) ≡ true → is-limited most-capacity (m .capacity) ≡ true → Good (refilled m f)
+  pub refilled-good : is-limited most-registers (count m) ≡ true → all (is-limited most-capacity) (m .capacities) ≡ true
+      → Good (refilled m f)
   refilled-good r c = record {
     registers = r;
-    capacity = c;
-    store = length-store (m .capacity) f (m .count) fits;
-    lengths = length-cells (m .count) λ i. length (f (suc i));
-    places = λ i l. rw (refilled-length i l, refilled-place i l) (laid-is-laid (m .capacity) (f (suc i)) (fits i l));
+    capacities = c;
+    store = length-store (m .capacities) f (count m) fits ∙ offset-whole (m .capacities);
+    lengths = length-cells (count m) λ i. length (f (suc i));
+    places = λ i l. rw (refilled-length i l, refilled-place i l) (laid-is-laid (getD (m .capacities) i 0) (f (suc i)) (fits i l));
   }
 
 -- The registers of a good memory fit, and laid down they are the memory
 module _ (m : Memory) (g : Good m) where
-  place-inside : (i : ℕ) → i < m .count → i * m .capacity + m .capacity ≤ length (m .store)
-  place-inside i l = omega (arith, g .store, mul-le-mul-right (m .capacity) l)
+  pub length-place : (i : ℕ) → length (place-of m (suc i)) ≡ getD (m .capacities) i 0
+  length-place i =
+      let inside : offset (m .capacities) (suc i) + getD (m .capacities) i 0 ≤ length (m .store)
+      = omega (arith, place-inside (m .capacities) i, g .store) in
+      simp (length-take, length-drop) (omega arith)
 
-  pub length-place : (i : ℕ) → i < m .count → length (place-of m (suc i)) ≡ m .capacity
-  length-place i l =
-      let inside : i * m .capacity + m .capacity ≤ length (m .store) = place-inside i l in
-      rw offset-suc (simp (length-take, length-drop) (omega arith))
+  pub length-contents : (i : ℕ) → i < count m → length (contents m (suc i)) ≡ getD (m .lengths) i 0
+  length-contents i l =
+      length-read (getD (m .capacities) i 0) (getD (m .lengths) i 0) (place-of m (suc i)) (length-place i) (g .places i l)
 
-  pub length-contents : (i : ℕ) → i < m .count → length (contents m (suc i)) ≡ getD (m .lengths) i 0
-  length-contents i l = length-read (m .capacity) (getD (m .lengths) i 0) (place-of m (suc i)) (length-place i l) (g .places i l)
-
-  pub contents-fit : Fits (m .capacity) (m .count) (contents m)
+  pub contents-fit : Fits (m .capacities) (count m) (contents m)
   contents-fit i l =
-      rw (length-contents i l) (read-within (m .capacity) (getD (m .lengths) i 0) (place-of m (suc i)) (length-place i l) (g .places i l))
+      rw (length-contents i l)
+      (read-within (getD (m .capacities) i 0) (getD (m .lengths) i 0) (place-of m (suc i)) (length-place i) (g .places i l))
 
-  pub contents-laid : (i : ℕ) → i < m .count → laid (m .capacity) (contents m (suc i)) ≡ place-of m (suc i)
-  contents-laid i l = read-laid (m .capacity) (getD (m .lengths) i 0) (place-of m (suc i)) (length-place i l) (g .places i l)
+  pub contents-laid : (i : ℕ) → i < count m → laid (getD (m .capacities) i 0) (contents m (suc i)) ≡ place-of m (suc i)
+  contents-laid i l =
+      read-laid (getD (m .capacities) i 0) (getD (m .lengths) i 0) (place-of m (suc i)) (length-place i) (g .places i l)
 
   -- there is nothing in registers that the memory lacks
-  pub contents-beyond : (i : ℕ) → m .count ≤ i → contents m (suc i) ≡ []
+  pub contents-beyond : (i : ℕ) → count m ≤ i → contents m (suc i) ≡ []
   contents-beyond i l = rw (List·getD-eq-default (m .lengths) 0 {n = i} (rw (g .lengths) l))
 
-  stored-so-far : (n : ℕ) → n ≤ m .count → store-of (m .capacity) n (contents m) ≡ take (n * m .capacity) (m .store)
+  stored-so-far : (n : ℕ) → n ≤ count m → store-of (m .capacities) n (contents m) ≡ take (offset (m .capacities) (suc n)) (m .store)
   unfolding store-of
-  stored-so-far zero l = rw zero-mul
+  stored-so-far zero l = refl
   stored-so-far (suc n) l =
       let before = stored-so-far n (omega arith) in
-      let last : laid (m .capacity) (contents m (suc n)) ≡ take (m .capacity) (drop (n * m .capacity) (m .store))
-      = contents-laid n l ∙ rw offset-suc in
-      ap₂ {C = Bytes} _++_ before last ∙ rw (suc-mul n (m .capacity)) (sym (take-add (n * m .capacity) (m .capacity) (m .store)))
+      let from : ℕ = offset (m .capacities) (suc n) in
+      ap₂ {C = Bytes} _++_ before (contents-laid n l)
+      ∙ rw (offset-next (m .capacities) n) (sym (take-add from (getD (m .capacities) n 0) (m .store)))
 
-  pub contents-stored : store-of (m .capacity) (m .count) (contents m) ≡ m .store
-  contents-stored = stored-so-far (m .count) (omega arith) ∙ rw (← (g .store)) (take-length (m .store))
+  pub contents-stored : store-of (m .capacities) (count m) (contents m) ≡ m .store
+  contents-stored =
+      stored-so-far (count m) (omega arith) ∙ rw (offset-whole (m .capacities), ← (g .store)) (take-length (m .store))
 
-  pub contents-counted : lengths-of (m .count) (contents m) ≡ m .lengths
+  pub contents-counted : lengths-of (count m) (contents m) ≡ m .lengths
   contents-counted =
-      let count : length (lengths-of (m .count) (contents m)) ≡ m .count
-      = length-cells (m .count) λ i. length (contents m (suc i)) in
-      ext-getD 0 (lengths-of (m .count) (contents m)) (m .lengths) (count ∙ sym (g .lengths)) λ i l.
-      getD-cells (m .count) (λ j. length (contents m (suc j))) 0 i (rw (← count) l) ∙ length-contents i (rw (← count) l)
+      let size : length (lengths-of (count m) (contents m)) ≡ count m
+      = length-cells (count m) λ i. length (contents m (suc i)) in
+      ext-getD 0 (lengths-of (count m) (contents m)) (m .lengths) (size ∙ sym (g .lengths)) λ i l.
+      getD-cells (count m) (λ j. length (contents m (suc j))) 0 i (rw (← size) l) ∙ length-contents i (rw (← size) l)
+
+pub refilled-with-its-contents : RefilledWithItsContents
+refilled-with-its-contents m good =
+    let g = memory-is-good m good in
+    ap₂ {C = Memory} (λ s l. record { capacities = m .capacities; store = s; lengths = l }) (contents-stored m g) (contents-counted m g)
 
 -- Runs of words
 
--- n registers hold no more than the capacity, and the others nothing
-pub record Held (capacity n : ℕ) (f : ℕ → List Symbol) : Type 0 where
-  pub fits : Fits capacity n f
-  pub beyond : (i : ℕ) → n ≤ i → f (suc i) ≡ []
+-- As many registers as capacities hold no more than these, and the others nothing
+pub record Held (capacities : List ℕ) (f : ℕ → List Symbol) : Type 0 where
+  pub fits : Fits capacities (length capacities) f
+  pub beyond : (i : ℕ) → length capacities ≤ i → f (suc i) ≡ []
 
-module _ (capacity n : ℕ) (f : ℕ → List Symbol) (h : Held capacity n f) where
-  held-put : (r : ℕ) (xs : List Symbol) → r ≤ n → length xs ≤ capacity → Held capacity n (put f r xs)
+module _ (capacities : List ℕ) (f : ℕ → List Symbol) (h : Held capacities f) where
+  held-put : (r : ℕ) (xs : List Symbol) → r ≤ length capacities → length xs ≤ capacity-of capacities r → Held capacities (put f r xs)
   held-put r xs named short = record {
-    fits = λ i l. put-ind (λ ys. length ys ≤ capacity) f r xs (suc i) (λ e. short) (λ e. h .fits i l);
+    fits = λ i l. put-ind (λ ys. length ys ≤ getD capacities i 0) f r xs (suc i) (λ e. rw (← e) at short) (λ e. h .fits i l);
     beyond = λ i l. put-ind (λ ys. ys ≡ []) f r xs (suc i) (λ e. absurd (omega arith)) (λ e. h .beyond i l);
   }
 
-  within-named : (r : ℕ) → 1 ≤ r → r ≤ n → length (f r) ≤ capacity
+  within-named : (r : ℕ) → 1 ≤ r → r ≤ length capacities → length (f r) ≤ capacity-of capacities r
   within-named zero low high = absurd (omega arith)
   within-named (suc i) low high = h .fits i high
 
-module _ (capacity n : ℕ) where
-  after-append : (s s′ : W.State) (x : Symbol) (r : ℕ) → 1 ≤ r → r ≤ n → W.perform (within capacity) s (append x r) ≡ some s′
-      → Held capacity n (s .registers) → Held capacity n (s′ .registers)
+module _ (capacities : List ℕ) where
+  abbrev room : Room
+  room = within-each (capacity-of capacities)
+
+  after-append : (s s′ : W.State) (x : Symbol) (r : ℕ) → 1 ≤ r → r ≤ length capacities → W.perform room s (append x r) ≡ some s′
+      → Held capacities (s .registers) → Held capacities (s′ .registers)
   after-append s s′ x r low high e h =
       let xs = s .registers r in
-      let (room, same) = given-some (leb (suc (length xs)) capacity) (W.appended r s x) s′ e in
-      let short : length (xs ++ (x ∷ [])) ≤ capacity = rw length-append (omega (arith, leb-true (suc (length xs)) capacity room)) in
-      subst (λ (t : W.State). Held capacity n (t .registers)) same (held-put capacity n (s .registers) h r (xs ++ (x ∷ [])) high short)
+      let (fits, same) = given-some (leb (suc (length xs)) (capacity-of capacities r)) (W.appended r s x) s′ e in
+      let short : length (xs ++ (x ∷ [])) ≤ capacity-of capacities r
+      = rw length-append (omega (arith, leb-true (suc (length xs)) (capacity-of capacities r) fits)) in
+      subst (λ (t : W.State). Held capacities (t .registers)) same (held-put capacities (s .registers) h r (xs ++ (x ∷ [])) high short)
 
-  after-branch : (s : W.State) (r : ℕ) (xs : List Symbol) → r ≤ n → length xs ≤ capacity
-      → Held capacity n (s .registers) → Held capacity n (W.branch r s xs .registers)
+  after-branch : (s : W.State) (r : ℕ) (xs : List Symbol) → r ≤ length capacities → length xs ≤ capacity-of capacities r
+      → Held capacities (s .registers) → Held capacities (W.branch r s xs .registers)
   after-branch s r [] high short h = h
-  after-branch s r (one ∷ xs) high short h = held-put capacity n (s .registers) h r xs high (omega arith)
-  after-branch s r (hash ∷ xs) high short h = held-put capacity n (s .registers) h r xs high (omega arith)
+  after-branch s r (one ∷ xs) high short h = held-put capacities (s .registers) h r xs high (omega arith)
+  after-branch s r (hash ∷ xs) high short h = held-put capacities (s .registers) h r xs high (omega arith)
 
-  after-performed : (s s′ : W.State) (i : Instruction) → 1 ≤ operand i → NamesAtMost n i → W.perform (within capacity) s i ≡ some s′
-      → Held capacity n (s .registers) → Held capacity n (s′ .registers)
+  after-performed : (s s′ : W.State) (i : Instruction) → 1 ≤ operand i → NamesAtMost (length capacities) i
+      → W.perform room s i ≡ some s′ → Held capacities (s .registers) → Held capacities (s′ .registers)
   after-performed s s′ (append one r) low names e h = after-append s s′ one r low (names refl) e h
   after-performed s s′ (append hash r) low names e h = after-append s s′ hash r low (names refl) e h
   after-performed s s′ (forward r) low names e h =
-      subst (λ (t : W.State). Held capacity n (t .registers)) (Option·some-injective _ s′ e) h
+      subst (λ (t : W.State). Held capacities (t .registers)) (Option·some-injective _ s′ e) h
   after-performed s s′ (backward r) low names e h =
-      subst (λ (t : W.State). Held capacity n (t .registers)) (Option·some-injective _ s′ e) h
+      subst (λ (t : W.State). Held capacities (t .registers)) (Option·some-injective _ s′ e) h
   after-performed s s′ (cases r) low names e h =
-      let short = within-named capacity n (s .registers) h r low (names refl) in
+      let short = within-named capacities (s .registers) h r low (names refl) in
       let branched = after-branch s r (s .registers r) (names refl) short h in
-      subst (λ (t : W.State). Held capacity n (t .registers)) (Option·some-injective _ s′ e) branched
+      subst (λ (t : W.State). Held capacities (t .registers)) (Option·some-injective _ s′ e) branched
 
-  after-step : (w : List Instruction) → EachOf (λ i. 1 ≤ operand i) w → EachOf (NamesAtMost n) w → (s s′ : W.State)
-      → W.step (within capacity) w s ≡ some s′ → Held capacity n (s .registers) → Held capacity n (s′ .registers)
+  after-step : (w : List Instruction) → EachOf (λ i. 1 ≤ operand i) w → EachOf (NamesAtMost (length capacities)) w → (s s′ : W.State)
+      → W.step room w s ≡ some s′ → Held capacities (s .registers) → Held capacities (s′ .registers)
   unfolding W.step
   after-step w lows names s s′ = go (s .place) (W.fetch w (s .place)) refl
     where
-      at-place : (q : ℤ) (i : Instruction) → W.fetch w q ≡ some i → (1 ≤ operand i) × NamesAtMost n i
+      at-place : (q : ℤ) (i : Instruction) → W.fetch w q ≡ some i → (1 ≤ operand i) × NamesAtMost (length capacities) i
       at-place (pos zero) i f = absurd (Option·none-ne-some i f)
-      at-place (pos (suc q)) i f = (each-at (λ j. 1 ≤ operand j) w q i lows f, each-at (NamesAtMost n) w q i names f)
+      at-place (pos (suc q)) i f = (each-at (λ j. 1 ≤ operand j) w q i lows f, each-at (NamesAtMost (length capacities)) w q i names f)
       at-place (negsuc q) i f = absurd (Option·none-ne-some i f)
 
-      go : (q : ℤ) (i : Option Instruction) → W.fetch w q ≡ i → and-then i (W.perform (within capacity) s) ≡ some s′
-          → Held capacity n (s .registers) → Held capacity n (s′ .registers)
+      go : (q : ℤ) (i : Option Instruction) → W.fetch w q ≡ i → and-then i (W.perform room s) ≡ some s′
+          → Held capacities (s .registers) → Held capacities (s′ .registers)
       go q none f e h = absurd (Option·none-ne-some s′ e)
       go q (some i) f e h = after-performed s s′ i (at-place q i f .0) (at-place q i f .1) e h
 
 -- Registers that are held are laid down in a good memory, and read back from it, all of them
-pub held-refilled : (m : Memory) → Good m → (f : ℕ → List Symbol) → Held (m .capacity) (m .count) f
+pub held-refilled : (m : Memory) → Good m → (f : ℕ → List Symbol) → Held (m .capacities) f
     → (is-memory (refilled m f) ≡ true) × ((r : ℕ) → 0 < r → contents (refilled m f) r ≡ f r)
 held-refilled m g f h = (good-is-memory (refilled m f) good, all-registers)
   where
     good : Good (refilled m f)
-    good = refilled-good m f (h .fits) (g .registers) (g .capacity)
+    good = refilled-good m f (h .fits) (g .registers) (g .capacities)
 
-    register : (i : ℕ) (t : Bool) → ltb i (m .count) ≡ t → contents (refilled m f) (suc i) ≡ f (suc i)
-    register i true e = contents-refilled m f (h .fits) i (ltb-true i (m .count) e)
+    register : (i : ℕ) (t : Bool) → ltb i (count m) ≡ t → contents (refilled m f) (suc i) ≡ f (suc i)
+    register i true e = contents-refilled m f (h .fits) i (ltb-true i (count m) e)
     register i false e =
-        let past = ltb-false i (m .count) e in
+        let past = ltb-false i (count m) e in
         contents-beyond (refilled m f) good i past ∙ sym (h .beyond i past)
 
     all-registers : (r : ℕ) → 0 < r → contents (refilled m f) r ≡ f r
     all-registers zero l = absurd (omega arith)
-    all-registers (suc i) l = register i (ltb i (m .count)) refl
+    all-registers (suc i) l = register i (ltb i (count m)) refl
 
 pub run-holds : (w : List Instruction) (m : Memory) (p : Position) (b : ℕ) → Good m → EachOf (λ i. 1 ≤ operand i) w
-    → EachOf (NamesAtMost (m .count)) w → Held (m .capacity) (m .count) (run-word w m p b .state .registers)
+    → EachOf (NamesAtMost (count m)) w → Held (m .capacities) (run-word w m p b .state .registers)
 unfolding run-word
 run-holds w m p b g lows names =
-    run-keeps (W.machine (within (m .capacity)) w) (λ s. Held (m .capacity) (m .count) (s .registers))
-    (λ s s′ live e. after-step (m .capacity) (m .count) w lows names s s′ e)
+    run-keeps (W.machine (within-each (capacity-of (m .capacities))) w) (λ s. Held (m .capacities) (s .registers))
+    (λ s s′ live e. after-step (m .capacities) w lows names s s′ e)
     b (p .steps) (word-state m p)
     (record { fits = contents-fit m g; beyond = contents-beyond m g })
 

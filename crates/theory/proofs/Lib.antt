@@ -5,6 +5,7 @@ pub mod Lists
 pub mod Budgets
 pub mod Counts
 pub mod Unlimited
+pub mod Offsets
 pub mod GoodMemory
 pub mod Values
 pub mod GoodSource
@@ -17,6 +18,7 @@ pub mod Ends
 pub mod Cells
 pub mod Joins
 pub mod Partners
+pub mod Rooms
 pub mod Numerals
 pub mod Steps
 pub mod Paths
@@ -27,5 +29,6 @@ pub mod Stops
 pub mod Whole
 pub mod Demand
 pub mod Together
+pub mod Even
 pub mod Spellings
 pub mod Texts

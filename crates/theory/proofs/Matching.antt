@@ -2,29 +2,31 @@
 use mathlib.Core.Path.{_≡_, refl, sym, ap, _∙_}
 use mathlib.Core.Logic.{_≢_}
 use mathlib.Core.Bool.{Bool, true, false}
+use mathlib.Core.Option.{some}
 use mathlib.Core.List.{List}
 use Prim.Native.Nat.{ℕ, zero, suc, pred, _≤_, _<_}
 use native.Mathlib.Omega.{arith}
 use lib.ListN.{length}
 use lib.Dec.{eqb}
 use borrow.Author.Tests.{eqb-true, eqb-false}
-use Rattle.theory.specs.Basics.{put}
+use Rattle.theory.specs.Basics.{at, put}
 use Rattle.theory.specs.Runs.{register, Room}
 use Rattle.theory.specs.ProgramText.{Command}
 use Rattle.theory.specs.Source.{State, depth, go-to, set-variable}
+use Rattle.theory.specs.Word.{one, Instruction, append}
 use Rattle.theory.specs.Translation.{scratch, counter}
 use Rattle.theory.proofs.Cells.{put-same, put-other, put-cases, put-ind}
 use Rattle.theory.proofs.Paths.{Fits}
 
--- Where there is room for an amount there is room for less, and what has room in a variable has room in scratch and in each counter
-pub record Roomy (room : Room) (K : ℕ) : Type 0 where
+-- Where there is room for an amount there is room for less, and what has room in a variable has room in each register above K that the
+-- word appends to: in scratch, and in the counters of the depths that it uses
+pub record Roomy (room : Room) (K : ℕ) (w : List Instruction) : Type 0 where
   pub less : (r n : ℕ) → room r (suc n) ≡ true → room r n ≡ true
-  pub in-scratch : (i n : ℕ) → i < K → room (register i) n ≡ true → room (scratch K) n ≡ true
-  pub in-counter : (i n d : ℕ) → i < K → room (register i) n ≡ true → room (counter K d) n ≡ true
+  pub in-named : (q r i n : ℕ) → at w q ≡ some (append one r) → K < r → i < K → room (register i) n ≡ true → room r n ≡ true
 
-pub fits : (room : Room) (K : ℕ) → Roomy room K → (r x : ℕ) → room r x ≡ true → Fits room r x
-fits room K R r zero h k l = let z : k ≡ 0 = omega arith in ap (room r) z ∙ h
-fits room K R r (suc x) h k l = go (eqb k (suc x)) refl (fits room K R r x (R .less r x h) k)
+pub fits : (room : Room) (K : ℕ) (w : List Instruction) → Roomy room K w → (r x : ℕ) → room r x ≡ true → Fits room r x
+fits room K w R r zero h k l = let z : k ≡ 0 = omega arith in ap (room r) z ∙ h
+fits room K w R r (suc x) h k l = go (eqb k (suc x)) refl (fits room K w R r x (R .less r x h) k)
   where
     go : (b : Bool) → eqb k (suc x) ≡ b → (k ≤ x → room r k ≡ true) → room r k ≡ true
     go true e f = ap (room r) (eqb-true k (suc x) e) ∙ h

@@ -135,6 +135,9 @@ pub record Partners (p : List Command) (o c : ℕ) (k : Kind) (i : ℕ) : Type 0
   pub in-order : o < c
   pub closing-is : closing p o ≡ c
   pub opening-is : opening p c ≡ o
+  pub body-open : open-at p (suc o) ≡ record { line = o; kind = k; index = i } ∷ open-at p o
+  pub close-open : open-at p c ≡ record { line = o; kind = k; index = i } ∷ open-at p o
+  pub after-open : open-at p (suc c) ≡ open-at p o
   pub body-depth : depth p (suc o) ≡ deeper k (depth p o)
   pub close-depth : depth p c ≡ deeper k (depth p o)
   pub after-depth : depth p (suc c) ≡ depth p o
@@ -177,6 +180,9 @@ module _ (p : List Command) (n : ℕ) (k : Kind) (i : ℕ) (body b : Block) (h :
     in-order = omega arith;
     closing-is = closes-at;
     opening-is = ap innermost open-close;
+    body-open = open-body;
+    close-open = open-close;
+    after-open = open-past;
     body-depth = ap loops open-body;
     close-depth = ap loops open-close;
     after-depth = ap loops open-past;

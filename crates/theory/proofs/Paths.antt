@@ -1,18 +1,18 @@
 -- What each stretch of code of document 01's "Translation" does to the counts, and in how many steps.
 use mathlib.Core.Path.{_≡_, refl, sym, ap, ap₂, _∙_, subst}
 use mathlib.Core.Logic.{_≢_}
-use mathlib.Core.Bool.{true}
-use mathlib.Core.Option.{some}
+use mathlib.Core.Bool.{true, false}
+use mathlib.Core.Option.{none, some}
 use mathlib.Core.List.{List, _++_}
-use Prim.Native.Nat.{ℕ, zero, suc, _+_, _*_, _≤_}
+use Prim.Native.Nat.{ℕ, zero, suc, _+_, _-_, _*_, _≤_, _<_}
 use native.Mathlib.Omega.{arith}
 use Rattle.theory.specs.Basics.{at, put}
-use Rattle.theory.specs.Runs.{Room, Goes, stay, move, each}
+use Rattle.theory.specs.Runs.{Room, unlimited, Goes, stay, move, each}
 use Rattle.theory.specs.Word.{Instruction, one, append, cases, State, step}
 use Rattle.theory.specs.Translation.{clearing, sharing, returning, touching, copying}
 use Rattle.theory.proofs.Cells.{put-same, put-other, put-put, put-comm, put-id, Sits, sits-left, sits-right}
 use Rattle.theory.proofs.Joins.{ends, join}
-use Rattle.theory.proofs.Steps.{standing, step-append, step-forward, step-backward, step-empty, step-one}
+use Rattle.theory.proofs.Steps.{standing, step-append, step-forward, step-backward, step-empty, step-one, step-full}
 
 -- There is room in register r for x, and for all less
 abbrev pub Fits : Room → ℕ → ℕ → Type 0
@@ -95,23 +95,36 @@ module _ (room : Room) (w : List Instruction) where
     abbrev with : ℕ → ℕ → ℕ → ℕ → ℕ
     with = three n a b t
 
+    three-eq : (x x′ y y′ z z′ : ℕ) → x ≡ x′ → y ≡ y′ → z ≡ z′ → with x y z ≡ with x′ y′ z′
+    three-eq x x′ y y′ z z′ e f g = ap (λ i. with i y z) e ∙ (ap (λ i. with x′ i z) f ∙ ap (λ i. with x′ y′ i) g)
+
+    -- k turns of the sharing, back at its first instruction
+    turns : (q : ℕ) → Sits w q (sharing a b t) → (k x x′ y y′ z z′ : ℕ) → x′ ≡ k + x → y′ ≡ k + y → z′ ≡ k + z
+        → Fits room b y′ → Fits room t z′ → Run (standing q (with x′ y z)) (4 * k) (standing q (with x y′ z′))
+    turns q h zero x x′ y y′ z z′ ex ey ez r₁ r₂ =
+        let same : with x′ y z ≡ with x y′ z′ = three-eq x′ x y y′ z z′ (omega arith) (omega arith) (omega arith) in
+        ends refl (ap (standing q) same) stay
+    turns q h (suc k) x x′ y y′ z z′ ex ey ez r₁ r₂ =
+        let x″ : ℕ = k + x in
+        let e : with (suc x″) y z ≡ with x′ y z = ap (λ i. with i y z) (omega arith) in
+        subst (λ (f : ℕ → ℕ). Run (standing q f) (4 * suc k) (standing q (with x y′ z′))) e
+        (ends (omega arith) refl
+        (move (step-one room w q (with (suc x″) y z) a x″ (suc (suc q)) (with x″ y z) (h .0) (three-a n a b t ab at′ bt (suc x″) y z)
+        (omega arith) (set-a n a b t ab at′ bt (suc x″) y z x″))
+        (move (step-append room w (suc (suc q)) (with x″ y z) b y (suc (suc (suc q))) (with x″ (suc y) z) (h .1 .1 .0)
+        (three-b n a b t ab at′ bt x″ y z) (r₁ (suc y) (omega arith)) refl (set-b n a b t ab at′ bt x″ y z (suc y)))
+        (move (step-append room w (suc (suc (suc q))) (with x″ (suc y) z) t z (suc (suc (suc (suc q)))) (with x″ (suc y) (suc z))
+        (h .1 .1 .1 .0) (three-t n a b t ab at′ bt x″ (suc y) z) (r₂ (suc z) (omega arith)) refl
+        (set-t n a b t ab at′ bt x″ (suc y) z (suc z)))
+        (move (step-backward room w (suc (suc (suc (suc q)))) (with x″ (suc y) (suc z)) 4 q (h .1 .1 .1 .1 .0) (omega arith))
+        (turns q h k x x″ (suc y) y′ (suc z) z′ refl (omega arith) (omega arith) r₁ r₂))))))
+
     shares : (q : ℕ) → Sits w q (sharing a b t) → (x y z y′ z′ : ℕ) → y′ ≡ x + y → z′ ≡ x + z → Fits room b y′ → Fits room t z′
         → Run (standing q (with x y z)) (4 * x + 2) (standing (q + 5) (with 0 y′ z′))
-    shares q h zero y z y′ z′ ey ez r₁ r₂ =
-        ends refl (ap (standing (q + 5)) (ap₂ (with 0) (omega arith) (omega arith)))
-        (move (step-empty room w q (with 0 y z) a (suc q) (h .0) (three-a n a b t ab at′ bt 0 y z) refl)
-        (move (step-forward room w (suc q) (with 0 y z) 4 (q + 5) (h .1 .0) (omega arith)) stay))
-    shares q h (suc x) y z y′ z′ ey ez r₁ r₂ =
-        ends (omega arith) refl
-        (move (step-one room w q (with (suc x) y z) a x (suc (suc q)) (with x y z) (h .0) (three-a n a b t ab at′ bt (suc x) y z)
-        (omega arith) (set-a n a b t ab at′ bt (suc x) y z x))
-        (move (step-append room w (suc (suc q)) (with x y z) b y (suc (suc (suc q))) (with x (suc y) z) (h .1 .1 .0)
-        (three-b n a b t ab at′ bt x y z) (r₁ (suc y) (omega arith)) refl (set-b n a b t ab at′ bt x y z (suc y)))
-        (move (step-append room w (suc (suc (suc q))) (with x (suc y) z) t z (suc (suc (suc (suc q)))) (with x (suc y) (suc z))
-        (h .1 .1 .1 .0) (three-t n a b t ab at′ bt x (suc y) z) (r₂ (suc z) (omega arith)) refl
-        (set-t n a b t ab at′ bt x (suc y) z (suc z)))
-        (move (step-backward room w (suc (suc (suc (suc q)))) (with x (suc y) (suc z)) 4 q (h .1 .1 .1 .1 .0) (omega arith))
-        (shares q h x (suc y) (suc z) y′ z′ (omega arith) (omega arith) r₁ r₂)))))
+    shares q h x y z y′ z′ ey ez r₁ r₂ =
+        join (turns q h x 0 x y y′ z z′ (omega arith) ey ez r₁ r₂)
+        (move (step-empty room w q (with 0 y′ z′) a (suc q) (h .0) (three-a n a b t ab at′ bt 0 y′ z′) refl)
+        (move (step-forward room w (suc q) (with 0 y′ z′) 4 (q + 5) (h .1 .0) (omega arith)) stay))
 
     returns : (q : ℕ) → Sits w q (returning t a) → (z x y x′ : ℕ) → x′ ≡ z + x → Fits room a x′
         → Run (standing q (with x y z)) (3 * z + 2) (standing (q + 4) (with x′ y 0))
@@ -150,3 +163,32 @@ module _ (room : Room) (w : List Instruction) where
       (spreads (put n b 0) a b t ab at′ bt (q + 3) (sits-left w (q + 3) (sharing a b t) (returning t a) h₂)
       (sits-right w (q + 3) (sharing a b t) (returning t a) h₂) x
       (put-other n b 0 a ab ∙ ea) (put-same n b 0) (put-other n b 0 t (λ e. bt (sym e)) ∙ et) ra rb rt))
+
+  -- A copy of x into b, which has room for m and no more, stops at the append to b
+  pub fills : (n : ℕ → ℕ) (a b t : ℕ) → a ≢ b → a ≢ t → b ≢ t → (q : ℕ) → Sits w q (copying a b t)
+      → (x y m : ℕ) → n a ≡ x → n b ≡ y → n t ≡ 0 → m < x → Fits room b m → room b (suc m) ≡ false → Fits room t m
+      → (u : State) × (u′ : State) × Run (standing q n) (2 * y + 2 + 4 * m + 1) u × (step room w u ≡ none) × (step unlimited w u ≡ some u′)
+  fills n a b t ab at′ bt q h x y m ea eb et l rb full rt =
+      let spread : List Instruction = sharing a b t ++ returning t a in
+      let h₂ : Sits w (q + 3) spread = sits-right w q (clearing b) spread h in
+      let share : Sits w (q + 3) (sharing a b t) = sits-left w (q + 3) (sharing a b t) (returning t a) h₂ in
+      let n₁ : ℕ → ℕ = put n b 0 in
+      let f : ℕ → ℕ → ℕ → ℕ → ℕ = three n₁ a b t in
+      let x″ : ℕ = x - suc m in
+      let begin : f x 0 0 ≡ n₁ = three-is n₁ a b t ab at′ bt x 0 (put-other n b 0 a ab ∙ ea)
+      (put-other n b 0 t (λ e. bt (sym e)) ∙ et) ∙ put-id n₁ b 0 (put-same n b 0) in
+      let first : Run (standing q n) (2 * y + 2) (standing (q + 3) n₁) = clears q b (sits-left w q (clearing b) spread h) y n eb in
+      let second : Run (standing (q + 3) (f x 0 0)) (4 * m) (standing (q + 3) (f (suc x″) m m)) =
+      turns n₁ a b t ab at′ bt (q + 3) share m (suc x″) x 0 m 0 m (omega arith) (omega arith) (omega arith) rb rt in
+      let third : step room w (standing (q + 3) (f (suc x″) m m)) ≡ some (standing (suc (suc (q + 3))) (f x″ m m)) =
+      step-one room w (q + 3) (f (suc x″) m m) a x″ (suc (suc (q + 3))) (f x″ m m) (share .0) (three-a n₁ a b t ab at′ bt (suc x″) m m)
+      (omega arith) (set-a n₁ a b t ab at′ bt (suc x″) m m x″) in
+      let held : f x″ m m b ≡ m = three-b n₁ a b t ab at′ bt x″ m m in (
+        standing (suc (suc (q + 3))) (f x″ m m),
+        standing (suc (suc (suc (q + 3)))) (f x″ (suc m) m),
+        join (join first (subst (λ (g : ℕ → ℕ). Run (standing (q + 3) g) (4 * m) (standing (q + 3) (f (suc x″) m m))) begin second))
+            (move third stay),
+        step-full room w (suc (suc (q + 3))) (f x″ m m) b m (share .1 .1 .0) held full,
+        step-append unlimited w (suc (suc (q + 3))) (f x″ m m) b m (suc (suc (suc (q + 3)))) (f x″ (suc m) m) (share .1 .1 .0) held
+            refl refl (set-b n₁ a b t ab at′ bt x″ m m (suc m)),
+      )

@@ -15,7 +15,7 @@ use Rattle.theory.specs.ProgramText.{Kind, loop, while, clear, increment
 use Rattle.theory.specs.Source as S
 use Rattle.theory.specs.Source.{State, closing, opening, depth, go-to, set-variable, begin-loop, end-loop, begin-while, passes-after}
 use Rattle.theory.specs.Word as W
-use Rattle.theory.specs.Word.{Instruction, forward, cases}
+use Rattle.theory.specs.Word.{one, Instruction, append, forward, cases}
 use Rattle.theory.specs.Translation.{scratch, counter, sharing, returning, touching, copying, before-body}
 use Rattle.theory.specs.Translation.{loop-charge, endloop-charge, command-charge, charge}
 use Rattle.theory.proofs.Cells.{at-within, put-same, put-other, put-cases, put-put, put-id, Sits, sits-left, sits-right}
@@ -39,19 +39,21 @@ module _ (room : Room) (K : ℕ) (p : List Command) (w : List Instruction) where
       let h₂ : Sits w (q + 5) (return ++ test) = sits-right w q (sharing (register i) (counter K d) (scratch K)) (return ++ test) h in
       subst (λ r. Sits w r test) (omega arith) (sits-right w (q + 5) return test h₂)
 
-  module _ (R : Roomy room K) (s : State) (n : ℕ → ℕ) (M : Match room K p s n) where
+  module _ (R : Roomy room K w) (s : State) (n : ℕ → ℕ) (M : Match room K p s n) where
     abbrev here : ℕ
     here = place K p (s .line)
 
-    -- There is room for the value of variable i in its register, in scratch and in each counter
+    -- There is room for the value of variable i in its register, and in scratch and a counter that the word appends to
     own : (i x : ℕ) → i < K → s .values i ≡ x → Fits room (register i) x
-    own i x l e = fits room K R (register i) x (ap (room (register i)) (sym e) ∙ M .fit i l)
+    own i x l e = fits room K w R (register i) x (ap (room (register i)) (sym e) ∙ M .fit i l)
 
-    spare : (i x : ℕ) → i < K → s .values i ≡ x → Fits room (scratch K) x
-    spare i x l e = fits room K R (scratch K) x (R .in-scratch i x l (ap (room (register i)) (sym e) ∙ M .fit i l))
+    spare : (q i x : ℕ) → at w q ≡ some (append one (scratch K)) → i < K → s .values i ≡ x → Fits room (scratch K) x
+    spare q i x h l e =
+        fits room K w R (scratch K) x (R .in-named q (scratch K) i x h (omega arith) l (ap (room (register i)) (sym e) ∙ M .fit i l))
 
-    extra : (i x d : ℕ) → i < K → s .values i ≡ x → Fits room (counter K d) x
-    extra i x d l e = fits room K R (counter K d) x (R .in-counter i x d l (ap (room (register i)) (sym e) ∙ M .fit i l))
+    extra : (q i x d : ℕ) → at w q ≡ some (append one (counter K d)) → i < K → s .values i ≡ x → Fits room (counter K d) x
+    extra q i x d h l e =
+        fits room K w R (counter K d) x (R .in-named q (counter K d) i x h (omega arith) l (ap (room (register i)) (sym e) ∙ M .fit i l))
 
     -- Past a pair, nothing else changed
     past-pair : (k : Kind) (i c : ℕ) → Pair K p w (s .line) c k i → Match room K p (go-to s (suc (closing p (s .line)))) n
@@ -101,11 +103,12 @@ module _ (room : Room) (K : ℕ) (p : List Command) (w : List Instruction) where
           → Result s n (2 * s .values i + 7 * s .values j + 6) (set-variable s i (s .values j))
       copy-to-other e h to =
           let x : ℕ = s .values j in
-          let fit : Fits room (register i) x = fits room K R (register i) x r in (
+          let fit : Fits room (register i) x = fits room K w R (register i) x r in
+          let spared : Fits room (scratch K) x = spare (suc (suc (suc (suc (suc (suc here)))))) j x (h .1 .1 .1 .1 .1 .1 .0) l′ refl in (
             put n (register i) x,
             ends refl (ap (λ q. standing q (put n (register i) x)) (sym to))
                 (copies room w n (register j) (register i) (scratch K) (omega arith) (omega arith) (omega arith) here h x (s .values i)
-                (M .held j l′) (M .held i l) (M .empty) (own j x l′ refl) fit (spare j x l′ refl)),
+                (M .held j l′) (M .held i l) (M .empty) (own j x l′ refl) fit spared),
             stored,
           )
 
@@ -140,7 +143,9 @@ module _ (room : Room) (K : ℕ) (p : List Command) (w : List Instruction) where
           let h : Sits w (here + 5) (return ++ test) = sits-right w here share (return ++ test) (P .before-code) in
           spreads room w n (register i) loop-counter (scratch K) (omega arith) (omega arith) (omega arith) here
           (sits-left w here share (return ++ test) (P .before-code)) (sits-left w (here + 5) return test h) x
-          (M .held i l ∙ e) not-counting (M .empty) (own i x l e) (extra i x loop-depth l e) (spare i x l e)
+          (M .held i l ∙ e) not-counting (M .empty) (own i x l e)
+          (extra (suc (suc here)) i x loop-depth (P .before-code .1 .1 .0) l e)
+          (spare (suc (suc (suc here))) i x (P .before-code .1 .1 .1 .0) l e)
 
       on-loop : (x : ℕ) → s .values i ≡ x → Result s n (loop-charge x) (begin-loop p s x)
       on-loop zero e =

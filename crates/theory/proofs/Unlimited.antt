@@ -15,7 +15,7 @@ use lib.Dec.{ltb, leb, eqb}
 use borrow.Author.Tests.{lt-ltb, ne-eqb, le-leb}
 use Rattle.theory.specs.Limits.{last-count}
 use Rattle.theory.specs.Basics.{at, given, and-then}
-use Rattle.theory.specs.Runs.{Room, unlimited, within, Machine, run, Goes, stay, move, each}
+use Rattle.theory.specs.Runs.{Room, unlimited, within-each, Machine, run, Goes, stay, move, each}
 use Rattle.theory.specs.ProgramText.{Command, plain, opens, closes, clear, increment, copy, loop, while}
 use Rattle.theory.specs.Source as S
 use Rattle.theory.specs.Word as W
@@ -181,12 +181,12 @@ word-not-spent room w s h = ⊎-elim (λ (e : Spent ≡ Halted). never (cc)) (λ
 
 pub source-unlimited : SourceUnlimited
 source-unlimited p capacity b n s =
-    let M = S.machine (within capacity) p in (
-      goes-by (source-more (within capacity) unlimited (λ r n t. refl) p) (run-goes M b n s),
+    let M = S.machine (within-each capacity) p in (
+      goes-by (source-more (within-each capacity) unlimited (λ r n t. refl) p) (run-goes M b n s),
       λ h. run-ends M b n s (λ e. never (cc)) (λ e. never (cc)) ∙ ap {B = Option End} some h,
     )
 
 pub word-unlimited : WordUnlimited
 word-unlimited w capacity b n s =
-    let M = W.machine (within capacity) w in
-    (goes-by (word-more (within capacity) unlimited (λ r n t. refl) w) (run-goes M b n s), run-ends M b n s)
+    let M = W.machine (within-each capacity) w in
+    (goes-by (word-more (within-each capacity) unlimited (λ r n t. refl) w) (run-goes M b n s), run-ends M b n s)

@@ -20,13 +20,14 @@ use Rattle.theory.specs.Word as W
 use Rattle.theory.specs.Translation.{scratch, counter, word}
 use Rattle.theory.specs.Translation.{loop-charge, endloop-charge, command-charge, charge}
 use Rattle.theory.specs.Machines.{fresh-source, fresh-word, holding, ones}
-use Rattle.theory.proofs.Joins.{Onward, join, inversion, compare}
+use Rattle.theory.specs.declared.End.the-variants.{Halted}
+use Rattle.theory.proofs.Joins.{join, inversion, compare}
 use Rattle.theory.proofs.Steps.{standing, step-forward}
 use Rattle.theory.proofs.Partners.{named-below, depth-end}
 use Rattle.theory.proofs.Sites.{place, site, place-start}
 use Rattle.theory.proofs.Matching.{Roomy, Match}
 use Rattle.theory.proofs.Simulate.{Result, simulate}
-use Rattle.theory.proofs.Stops.{Even, here, stop-both}
+use Rattle.theory.proofs.Stops.{here, stop-both}
 
 -- The counts at the start
 
@@ -86,7 +87,7 @@ step-pays room p s s′ x = go (at p (s .line)) x
     go none y = absurd (Option·none-ne-some s′ y)
     go (some c) y = command-pays p s c
 
-module _ (room : Room) (b : Block) (R : Roomy room (variables (lines b))) where
+module _ (room : Room) (b : Block) (R : Roomy room (variables (lines b)) (word b)) where
   abbrev p : List Command
   p = lines b
 
@@ -116,43 +117,59 @@ module _ (room : Room) (b : Block) (R : Roomy room (variables (lines b))) where
       let f : _ = follow g (r .0) (r .2) in
       (f .0, join (r .1) (f .1), f .2)
 
-  -- Each state that the word comes to from a match has a step, or is the match of a source state that has none
+  -- Each state that the word comes to from a match has a step, or is where the word stops for a source state that has none: both are
+  -- halted, or neither
   abbrev pub Reached : State → W.State → Type 0
   Reached s t =
       ((t′ : W.State) × (W.step room (word b) t ≡ some t′))
-      ⊎ ((c : ℕ) × (s′ : State) × (n : ℕ → ℕ) × SourceRunIn s c s′ × (S.step room (lines b) s′ ≡ none)
-      × Match room (variables (lines b)) (lines b) s′ n × (t ≡ here room b s′ n))
+      ⊎ ((c : ℕ) × (s′ : State) × SourceRunIn s c s′
+      × (((S.machine room (lines b) .ended s′ ≡ some Halted) × (W.machine room (word b) .ended t ≡ some Halted))
+      ⊎ ((S.machine room (lines b) .ended s′ ≡ none) × (W.machine room (word b) .ended t ≡ none))))
 
-  module _ (E : Even room (variables (lines b))) where
-    -- by the number f that the steps m of the word are below: every source step takes some of them
-    reach : (f m : ℕ) → m < f → (s : State) (n : ℕ → ℕ) (t : W.State) → Match room K p s n → WordRunIn (at-line s n) m t → Reached s t
-    reach zero m h s n t M g = absurd (omega arith)
-    reach (suc f) m h s n t M g = go (S.step room p s) refl (λ m′ l s′ n′ M′ g′. reach f m′ l s′ n′ t M′ g′)
-      where
-        last : S.step room p s ≡ none → ((m ≡ 0) × (at-line s n ≡ t)) ⊎ Onward (W.step room (word b)) each (at-line s n) m t → Reached s t
-        last e (inl z) = inr (0, s, n, stay, e, M, sym (z .1))
-        last e (inr z) = absurd (Option·none-ne-some (z .0) (sym (stop-both room b E s n M e .0) ∙ z .2))
-
-        onward : (s′ : State) → S.step room p s ≡ some s′ → Reached s′ t → Reached s t
-        onward s′ e (inl z) = inl z
-        onward s′ e (inr z) = inr (charge p s + z .0, z .1, z .2, move e (z .3), z .4, z .5, z .6)
-
-        go : (o : Option State) → S.step room p s ≡ o
-            → ((m′ : ℕ) → m′ < f → (s′ : State) (n′ : ℕ → ℕ) → Match room K p s′ n′ → WordRunIn (at-line s′ n′) m′ t → Reached s′ t)
-            → Reached s t
-        go none e rec = last e (inversion g)
-        go (some s′) e rec =
-            let r : Result room K p (word b) s n (charge p s) s′ = one-step s s′ n M e in
-            let paid : 0 < charge p s = step-pays room p s s′ e in
-            let there : W.State = at-line s′ (r .0) in
+  -- by the number f that the steps m of the word are below: every source step takes some of them
+  reach : (f m : ℕ) → m < f → (s : State) (n : ℕ → ℕ) (t : W.State) → Match room K p s n → WordRunIn (at-line s n) m t → Reached s t
+  reach zero m h s n t M g = absurd (omega arith)
+  reach (suc f) m h s n t M g = go (S.step room p s) refl (λ m′ l s′ n′ M′ g′. reach f m′ l s′ n′ t M′ g′)
+    where
+      last : S.step room p s ≡ none → Reached s t
+      last e =
+          let x : _ = stop-both room b R s n M e in
+          let same : (y : t ≡ x .1) → W.machine room (word b) .ended t ≡ W.machine room (word b) .ended (x .1) =
+          ap (W.machine room (word b) .ended) in
+          let found : t ≡ x .1 → Reached s t = λ y. inr (
+            0,
+            s,
+            stay,
             ⊎-elim
-            (λ y. let e₁ : m + y .0 ≡ charge p s = y .1 in ⊎-elim
-            (λ z. let e₂ : y .0 ≡ 0 = z .0 in
-            onward s′ e (rec 0 (omega arith) s′ (r .0) (r .2) (subst (λ u. WordRunIn there 0 u) (sym (z .1)) stay)))
-            (λ z. inl (z .0, z .2))
-            (inversion (y .2)))
-            (λ y. let e₁ : charge p s + y .0 ≡ m = y .1 in onward s′ e (rec (y .0) (omega arith) s′ (r .0) (r .2) (y .2)))
-            (compare g (r .1))
+                (λ z. inl (z .0, same y ∙ z .1))
+                (λ z. inr (z .0, same y ∙ z .1))
+                (x .4),
+          ) in
+          ⊎-elim
+          (λ y. ⊎-elim (λ z. found (z .1)) (λ z. inl (z .0, z .2)) (inversion (y .2)))
+          (λ y. ⊎-elim (λ z. found (sym (z .1))) (λ z. absurd (Option·none-ne-some (z .0) (sym (x .3) ∙ z .2))) (inversion (y .2)))
+          (compare g (x .2))
+
+      onward : (s′ : State) → S.step room p s ≡ some s′ → Reached s′ t → Reached s t
+      onward s′ e (inl z) = inl z
+      onward s′ e (inr z) = inr (charge p s + z .0, z .1, move e (z .2), z .3)
+
+      go : (o : Option State) → S.step room p s ≡ o
+          → ((m′ : ℕ) → m′ < f → (s′ : State) (n′ : ℕ → ℕ) → Match room K p s′ n′ → WordRunIn (at-line s′ n′) m′ t → Reached s′ t)
+          → Reached s t
+      go none e rec = last e
+      go (some s′) e rec =
+          let r : Result room K p (word b) s n (charge p s) s′ = one-step s s′ n M e in
+          let paid : 0 < charge p s = step-pays room p s s′ e in
+          let there : W.State = at-line s′ (r .0) in
+          ⊎-elim
+          (λ y. let e₁ : m + y .0 ≡ charge p s = y .1 in ⊎-elim
+          (λ z. let e₂ : y .0 ≡ 0 = z .0 in
+          onward s′ e (rec 0 (omega arith) s′ (r .0) (r .2) (subst (λ u. WordRunIn there 0 u) (sym (z .1)) stay)))
+          (λ z. inl (z .0, z .2))
+          (inversion (y .2)))
+          (λ y. let e₁ : charge p s + y .0 ≡ m = y .1 in onward s′ e (rec (y .0) (omega arith) s′ (r .0) (r .2) (y .2)))
+          (compare g (r .1))
 
   -- From the start
   module _ (v : ℕ → ℕ) (fit : (i : ℕ) → i < variables (lines b) → room (register i) (v i) ≡ true) where
@@ -178,11 +195,11 @@ module _ (room : Room) (b : Block) (R : Roomy room (variables (lines b))) where
     pub followed : (c : ℕ) (s : State) → SourceRunIn (fresh-source v) c s → Followed (fresh-word (variables (lines b)) v) (1 + c) s
     followed c s g = let f : _ = follow g (counts K v) start in (f .0, move first (f .1), f .2)
 
-    pub reached : Even room (variables (lines b)) → (m : ℕ) (t : W.State) → WordRunIn (fresh-word (variables (lines b)) v) m t
+    pub reached : (m : ℕ) (t : W.State) → WordRunIn (fresh-word (variables (lines b)) v) m t
         → Reached (fresh-source v) t
-    reached E m t g = ⊎-elim
+    reached m t g = ⊎-elim
         (λ z. inl (second, ap (W.step room (word b)) (sym (z .1)) ∙ first))
-        (λ z. reach E (suc (z .1)) (z .1) (omega arith) (fresh-source v) (counts K v) t start
+        (λ z. reach (suc (z .1)) (z .1) (omega arith) (fresh-source v) (counts K v) t start
         (subst (λ u. WordRunIn u (z .1) t) (Option·some-injective (z .0) second (sym (z .2) ∙ first)) (z .3)))
         (inversion g)
 

@@ -1,8 +1,8 @@
--- What several of the other files use: what stands at a place of a list, cells, what there may be or not, tests and facts over lists.
+-- What several of the other files use: what stands at a place of a list, cells, what there may be or not, sums, tests and facts over lists.
 use mathlib.Core.Bool.{Bool, true, false, cond, _&&_}
 use mathlib.Core.Option.{Option, none, some}
 use mathlib.Core.List.{List, [], _∷_}
-use Prim.Native.Nat.{ℕ, zero, suc}
+use Prim.Native.Nat.{ℕ, zero, suc, _+_}
 use lib.ListN.{getElem?}
 use lib.Dec.{eqb}
 
@@ -55,6 +55,10 @@ with-all (some x) (some l) = some (x ∷ l)
 abbrev pub every : {A : Type 0} → List (Option A) → Option (List A)
 every [] = some []
 every (o ∷ l) = with-all o (every l)
+
+abbrev pub sum : List ℕ → ℕ
+sum [] = 0
+sum (n ∷ l) = n + sum l
 
 -- The test passes at each element; at each number below n
 abbrev pub all : {A : Type 0} → (A → Bool) → List A → Bool

@@ -2,24 +2,25 @@
 use mathlib.Core.Path.{_≡_}
 use mathlib.Core.Logic.{_≢_, _⊎_, _↔_}
 use mathlib.Core.Bool.{true}
-use mathlib.Core.Option.{none, some}
+use mathlib.Core.Option.{Option, none, some}
 use mathlib.Core.List.{List, map}
-use Prim.Native.Nat.{ℕ, suc, _+_, _<_, _≤_}
+use Prim.Native.Nat.{ℕ, suc, _+_, _*_, _<_, _≤_}
 use lib.ListN.{length}
 use Rattle.theory.specs.Limits
 use Rattle.theory.specs.Basics.{at, EachOf}
 use Rattle.theory.specs.Text.{Bytes, in-digits}
-use Rattle.theory.specs.ProgramText.{Command, plain, increment, copy, variables, Block, lines, block-of, text-of, list-of}
-use Rattle.theory.specs.Runs.{Machine, run, Goes, each, unlimited, within}
+use Rattle.theory.specs.ProgramText.{clear, increment, copy, Command, plain, opens, closes, variables}
+use Rattle.theory.specs.ProgramText.{Block, lines, block-of, text-of, list-of}
+use Rattle.theory.specs.Runs.{register, Machine, run, Goes, each, unlimited, within-each, within}
 use Rattle.theory.specs.Source as S
 use Rattle.theory.specs.Word as W
 use Rattle.theory.specs.Word.{Symbol, Instruction, append, Entry, operand, kind, table-of, spell, spell-entries, bytes-of}
 use Rattle.theory.specs.Translation.{word, word-of, word-text, charge}
 use Rattle.theory.specs.Machines.{fresh-source, fresh-word, holding, SourceState, run-source, Memory, Position, run-word}
-use Rattle.theory.specs.Machines.{is-memory, contents, refilled}
+use Rattle.theory.specs.Machines.{capacity-of, count, is-memory, contents, refilled}
 use Rattle.theory.specs.TurnedDown.{done, program-fault, read-text, read-list, read-word, read-word-for, read-table, table-fault}
-use Rattle.theory.specs.TurnedDown.{instructions, is-source, names-register}
-use Rattle.theory.specs.RunTool.{tool-source, tool-word}
+use Rattle.theory.specs.TurnedDown.{instructions, is-source, names-register, rule-21}
+use Rattle.theory.specs.RunTool.{tool-capacities, tool-source, tool-word, capacities-fault}
 use Rattle.theory.specs.declared.End.{End}
 use Rattle.theory.specs.declared.End.the-variants.{Halted, Strayed, Spent, Full}
 
@@ -76,10 +77,43 @@ DemandOfPrograms = (p : List Command) → Accepted p → (v : ℕ → ℕ) → D
 abbrev pub DemandOfBlocks : Type 0
 DemandOfBlocks = (b : Block) (v : ℕ → ℕ) → Demand3 (lines b) (word b) v
 
--- 2. "From a fresh state, equal values and equal capacity, and where neither run ends as spent, the source is full exactly when its word
--- is"; and the word's steps are 1 + the sum of the charges of the source's steps, which are completed ones
+-- 2. "A variable's capacity is that of its register" (document 02, request 5): the values fit, and the capacities "pass 21"
+abbrev pub Fitting : List Command → (ℕ → ℕ) → (ℕ → ℕ) → Type 0
+Fitting p capacity v = (rule-21 capacity p ≡ none) × ((i : ℕ) → i < variables p → v i ≤ capacity (register i))
+
+-- "From a fresh state, equal values and equal capacity, and where neither run ends as spent, the source is full exactly when its word is".
+-- "Where the capacities pass 21, whether or not the call checks it, source and word are still full for the same runs"
 abbrev pub FullTogether : Type 0
 FullTogether =
+    (p : List Command) → Accepted p → (capacity v : ℕ → ℕ) → Fitting p capacity v → (b b′ : ℕ)
+    → let s = run (S.machine (within-each capacity) p) b 0 (fresh-source v) in
+    let t = run (W.machine (within-each capacity) (word-of p)) b′ 0 (fresh-word (variables p) v) in
+    s .end ≢ Spent → t .end ≢ Spent → (s .end ≡ Full) ↔ (t .end ≡ Full)
+
+-- "a word that fills up inside a copy reports its own steps": of a copy of j into i it has cleared i, gone 4 steps for each 1 that register
+-- i has room for, and taken one more 1 of j
+abbrev pub filling : (ℕ → ℕ) → Option Command → S.State → ℕ
+filling capacity (some (plain (copy i j))) s = 2 * s .values i + 2 + 4 * capacity (register i) + 1
+filling capacity (some (plain (clear i))) s = 0
+filling capacity (some (plain (increment i))) s = 0
+filling capacity (some (opens k i)) s = 0
+filling capacity (some (closes k i)) s = 0
+filling capacity none s = 0
+
+-- "the sum of charges then covers completed source steps only": c is the sum of the charges of the source's steps
+abbrev pub StepsTogether : Type 0
+StepsTogether =
+    (p : List Command) → Accepted p → (capacity v : ℕ → ℕ) → Fitting p capacity v → (b b′ : ℕ)
+    → let s = run (S.machine (within-each capacity) p) b 0 (fresh-source v) in
+    let t = run (W.machine (within-each capacity) (word-of p)) b′ 0 (fresh-word (variables p) v) in
+    s .end ≢ Spent → t .end ≢ Spent
+    → (c : ℕ) × SourceRun p (fresh-source v) c (s .state)
+    × (s .end ≢ Full → t .steps ≡ 1 + c)
+    × (s .end ≡ Full → t .steps ≡ 1 + c + filling capacity (at p (s .state .line)) (s .state))
+
+-- Registers "all of one capacity": rule 21 turns nothing down, and no copy lacks room
+abbrev pub FullAtOneCapacity : Type 0
+FullAtOneCapacity =
     (p : List Command) → Accepted p → (capacity : ℕ) (v : ℕ → ℕ) → ((i : ℕ) → i < variables p → v i ≤ capacity) → (b b′ : ℕ)
     → let s = run (S.machine (within capacity) p) b 0 (fresh-source v) in
     let t = run (W.machine (within capacity) (word-of p)) b′ 0 (fresh-word (variables p) v) in
@@ -88,26 +122,27 @@ FullTogether =
 
 -- "Full is given only where the step would put more than the capacity into a register or variable": from a state that rule 9 lets pass,
 -- and from any machine. A run that is full stands before such a step, which it could do on unlimited registers
-abbrev pub SourceLacksRoom : List Command → ℕ → S.State → Type 0
+abbrev pub SourceLacksRoom : List Command → (ℕ → ℕ) → S.State → Type 0
 SourceLacksRoom p capacity s =
-    ((i : ℕ) × (at p (s .line) ≡ some (plain (increment i))) × (capacity < suc (s .values i)))
-    ⊎ ((i : ℕ) × (j : ℕ) × (at p (s .line) ≡ some (plain (copy i j))) × (capacity < s .values j))
+    ((i : ℕ) × (at p (s .line) ≡ some (plain (increment i))) × (capacity (register i) < suc (s .values i)))
+    ⊎ ((i : ℕ) × (j : ℕ) × (at p (s .line) ≡ some (plain (copy i j))) × (capacity (register i) < s .values j))
 
-abbrev pub WordLacksRoom : List Instruction → ℕ → W.State → Type 0
+abbrev pub WordLacksRoom : List Instruction → (ℕ → ℕ) → W.State → Type 0
 WordLacksRoom w capacity s =
-    (x : Symbol) × (n : ℕ) × (W.fetch w (s .place) ≡ some (append x n)) × (capacity < suc (length (s .registers n)))
+    (x : Symbol) × (n : ℕ) × (W.fetch w (s .place) ≡ some (append x n)) × (capacity n < suc (length (s .registers n)))
 
 abbrev pub SourceFull : Type 0
 SourceFull =
     (p : List Command) → Accepted p → (s : SourceState) (b : ℕ) → is-source p s ≡ true
     → let o = run-source p s b in
-    o .end ≡ Full → SourceLacksRoom p (s .capacity) (o .state) × ((s′ : S.State) × (S.step unlimited p (o .state) ≡ some s′))
+    o .end ≡ Full
+    → SourceLacksRoom p (capacity-of (s .capacities)) (o .state) × ((s′ : S.State) × (S.step unlimited p (o .state) ≡ some s′))
 
 abbrev pub WordFull : Type 0
 WordFull =
     (w : List Instruction) (m : Memory) (p : Position) (b : ℕ)
     → let o = run-word w m p b in
-    o .end ≡ Full → WordLacksRoom w (m .capacity) (o .state) × ((t : W.State) × (W.step unlimited w (o .state) ≡ some t))
+    o .end ≡ Full → WordLacksRoom w (capacity-of (m .capacities)) (o .state) × ((t : W.State) × (W.step unlimited w (o .state) ≡ some t))
 
 -- Spent is given only where the budget is used up, or the count stands at 4,294,967,295, and the state has not ended
 abbrev pub SpentMeans : {S : Type 0} → Machine S → Type 0
@@ -118,8 +153,8 @@ SpentMeans {S} M =
 
 abbrev pub SpentRightly : Type 0
 SpentRightly =
-    ((p : List Command) (capacity : ℕ) → SpentMeans (S.machine (within capacity) p))
-    × ((w : List Instruction) (capacity : ℕ) → SpentMeans (W.machine (within capacity) w))
+    ((p : List Command) (capacity : ℕ → ℕ) → SpentMeans (S.machine (within-each capacity) p))
+    × ((w : List Instruction) (capacity : ℕ → ℕ) → SpentMeans (W.machine (within-each capacity) w))
 
 -- 3. Sizes of the word of an accepted program. "No word is above 600,000 symbols; this is proved." So a set with 64 registers never turns
 -- it down
@@ -178,14 +213,14 @@ BudgetsCut =
 -- 6. The steps of a bounded run are those of the unlimited run; and where it ends as halted or strayed, that run ends there so
 abbrev pub SourceUnlimited : Type 0
 SourceUnlimited =
-    (p : List Command) (capacity b n : ℕ) (s : S.State)
-    → let o = run (S.machine (within capacity) p) b n s in
+    (p : List Command) (capacity : ℕ → ℕ) (b n : ℕ) (s : S.State)
+    → let o = run (S.machine (within-each capacity) p) b n s in
     Goes (S.step unlimited p) each s (o .steps) (o .state) × (o .end ≡ Halted → Ends (S.machine unlimited p) Halted (o .state))
 
 abbrev pub WordUnlimited : Type 0
 WordUnlimited =
-    (w : List Instruction) (capacity b n : ℕ) (s : W.State)
-    → let o = run (W.machine (within capacity) w) b n s in
+    (w : List Instruction) (capacity : ℕ → ℕ) (b n : ℕ) (s : W.State)
+    → let o = run (W.machine (within-each capacity) w) b n s in
     Goes (W.step unlimited w) each s (o .steps) (o .state)
     × (o .end ≢ Spent → o .end ≢ Full → Ends (W.machine unlimited w) (o .end) (o .state))
 
@@ -194,16 +229,20 @@ abbrev pub SourceStaysGood : Type 0
 SourceStaysGood =
     (p : List Command) → Accepted p → (s : SourceState) (b : ℕ) → is-source p s ≡ true
     → let o = run-source p s b in
-    is-source p (record { capacity = s .capacity; steps = s .steps + o .steps; state = o .state }) ≡ true
+    is-source p (record { capacities = s .capacities; steps = s .steps + o .steps; state = o .state }) ≡ true
 
 -- The instructions name only registers that the memory has, as rule 15 makes sure
 abbrev pub MemoryStaysGood : Type 0
 MemoryStaysGood =
     (w : List Instruction) (m : Memory) (p : Position) (b : ℕ)
-    → is-memory m ≡ true → EachOf (λ i. 1 ≤ operand i) w → EachOf (NamesAtMost (m .count)) w
+    → is-memory m ≡ true → EachOf (λ i. 1 ≤ operand i) w → EachOf (NamesAtMost (count m)) w
     → let o = run-word w m p b in
     let m′ = refilled m (o .state .registers) in
     (is-memory m′ ≡ true) × ((r : ℕ) → 0 < r → contents m′ r ≡ o .state .registers r)
+
+-- Filled with the contents that it has, a memory is what it was
+abbrev pub RefilledWithItsContents : Type 0
+RefilledWithItsContents = (m : Memory) → is-memory m ≡ true → refilled m (contents m) ≡ m
 
 -- 8. Charges as printed: where the run tool prints `halted` for both, the word's count is 1 + the sum of the charges of the source's
 -- steps, which are as many as it prints, and the word's registers hold the source's values
@@ -216,3 +255,17 @@ ChargesAsPrinted =
     → (c : ℕ) × SourceRun p (fresh-source v) c (s .state) × (o .steps ≡ 1 + c)
     × Goes (S.step unlimited p) each (fresh-source v) (s .steps) (s .state)
     × HoldsValues (variables p) (s .state) (o .state)
+
+-- The run tool's registers are of one capacity: rules 10 and 21 turn nothing down there
+abbrev pub ToolHasRoom : Type 0
+ToolHasRoom =
+    (p : List Command) → Accepted p → (capacities-fault tool-capacities ≡ none) × (rule-21 (capacity-of tool-capacities) p ≡ none)
+
+-- and where it prints `spent` for neither run, what `FullAtOneCapacity` says holds of what it prints
+abbrev pub FullAsPrinted : Type 0
+FullAsPrinted =
+    (p : List Command) → Accepted p → (v : ℕ → ℕ) → ((i : ℕ) → i < variables p → v i ≤ Limits.tool-capacity)
+    → let s = tool-source p v in
+    let w = tool-word p v in
+    s .end ≢ Spent → w .end ≢ Spent
+    → ((s .end ≡ Full) ↔ (w .end ≡ Full)) × ((c : ℕ) × SourceRun p (fresh-source v) c (s .state) × (w .steps ≡ 1 + c))

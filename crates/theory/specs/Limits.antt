@@ -28,7 +28,7 @@ most-symbols = 600000
 abbrev pub most-instructions : ℕ
 most-instructions = 8192
 
--- A machine of the set: "Registers number 1 to 64, all of one capacity, 1 to 1,024 symbols"
+-- A machine of the set: "Registers number 1 to 64"; "Each register gets its own capacity, 1 to 1,024" (document 02, request 5)
 abbrev pub most-registers : ℕ
 most-registers = 64
 

@@ -21,9 +21,13 @@ Room = ℕ → ℕ → Bool
 abbrev pub unlimited : Room
 unlimited r n = true
 
+-- "Each register gets its own capacity", and "A variable's capacity is that of its register" (document 02, request 5)
+abbrev pub within-each : (ℕ → ℕ) → Room
+within-each capacity r n = leb n (capacity r)
+
 -- registers "all of one capacity"
 abbrev pub within : ℕ → Room
-within capacity r n = leb n capacity
+within capacity = within-each (λ r. capacity)
 
 -- How a state has ended (halted or strayed), if it has; and the step, none where it would need more than there is room for (full)
 pub record Machine (S : Type 0) : Type 0 where

@@ -1,9 +1,10 @@
 -- Document 01, "The program text", the source steps (the meaning of source document 001). Lines count from 1.
+use mathlib.Core.Bool.{cond}
 use mathlib.Core.Option.{Option, some}
 use mathlib.Core.List.{List, [], _∷_}
 use Prim.Native.Nat.{ℕ, zero, suc, _+_, pred}
 use lib.ListN.{length, take, drop}
-use lib.Dec.{eqb}
+use lib.Dec.{eqb, ltb}
 use Rattle.theory.specs.Basics.{at, put, given, and-then}
 use Rattle.theory.specs.Runs.{register, Room, Machine}
 use Rattle.theory.specs.ProgramText.{clear, increment, copy, Kind, loop, while, Command, plain, opens, closes, Opening, open-next}
@@ -48,6 +49,11 @@ deeper while n = n
 abbrev pub loops : List Opening → ℕ
 loops [] = 0
 loops (o ∷ os) = deeper (o .kind) (loops os)
+
+-- The variable of the loop inside d others, of pairs of which more than d are loops; the pairs stand innermost first
+abbrev pub loop-variable : List Opening → ℕ → ℕ
+loop-variable [] d = 0
+loop-variable (o ∷ os) d = cond (ltb d (loops os)) (loop-variable os d) (o .index)
 
 -- The number of loops whose body or `endloop` holds line n. At a loop's `loop` line that is its d, the number of loops enclosing it
 unfoldable pub depth : List Command → ℕ → ℕ

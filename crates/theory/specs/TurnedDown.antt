@@ -1,8 +1,9 @@
--- Document 01, "What is turned down": rules 1 to 19, rule 20 of document 02's request 1, and the order in which each call checks them.
+-- Document 01, "What is turned down": rules 1 to 19, rule 20 of document 02's request 1 and rule 21 of its request 5, and the
+-- order in which each call checks them.
 use mathlib.Core.Bool.{Bool, true, false, cond, not, _&&_, _||_}
 use mathlib.Core.Option.{Option, none, some}
 use mathlib.Core.List.{List, [], _∷_, _++_, map}
-use Prim.Native.Nat.{ℕ, suc, _+_}
+use Prim.Native.Nat.{ℕ, zero, suc, _+_, max}
 use lib.ListN.{length, take, drop}
 use lib.Dec.{eqb, ltb, leb}
 use Rattle.theory.specs.Limits
@@ -10,11 +11,13 @@ use Rattle.theory.specs.Basics.{given, or-else, and-then, default, prese
 use Rattle.theory.specs.Text.{Bytes, split-lines, ends-in-LF}
 use Rattle.theory.specs.ProgramText.{Kind, loop, while, Command, plain, opens, closes, indices, above, variables, command, commands}
 use Rattle.theory.specs.ProgramText.{listed, list-of, text-of, Opening, open-next}
-use Rattle.theory.specs.Runs.{Outcome}
+use Rattle.theory.specs.Runs.{register, Outcome}
 use Rattle.theory.specs.Source as S
 use Rattle.theory.specs.Word as W
-use Rattle.theory.specs.Word.{Entry, Instruction, is-symbol, symbol-of, entries, instruction-of, spell-entries, bytes-of}
-use Rattle.theory.specs.Machines.{SourceState, run-source, Memory, Position, run-word, is-memory, is-limited}
+use Rattle.theory.specs.Word.{Entry, Instruction, kind, operand, is-symbol, symbol-of, entries, instruction-of}
+use Rattle.theory.specs.Word.{spell-entries, bytes-of}
+use Rattle.theory.specs.Translation.{word-of}
+use Rattle.theory.specs.Machines.{SourceState, run-source, Memory, Position, run-word, is-memory, is-limited, capacity-of}
 use Rattle.theory.specs.RunSheet.{names, values, distinct}
 use Rattle.theory.specs.declared.Refusal.{Refusal}
 use Rattle.theory.specs.declared.Setting.{Setting}
@@ -139,22 +142,27 @@ read-list = read-list-under Any
 
 -- Source states: rule 9
 
--- A value is at most the capacity, and 0 "at index K or higher"
-abbrev pub is-value : ℕ → ℕ → ℕ → ℕ → Bool
-is-value capacity K i v = leb v capacity && (ltb i K || eqb v 0)
+-- "Rules 9, 10 and 18 read each capacity, 9 only those of variables below K": these are 1 to 1,024
+abbrev pub are-capacities : ℕ → List ℕ → Bool
+are-capacities K capacities = all-below K (λ i. is-limited Limits.most-capacity (capacity-of capacities (register i)))
 
--- Passes left of the loop inside d loops: 1 to capacity "for a loop whose body or `endloop` holds its line", of which there are D, 0 "for
--- any other"
-abbrev pub is-passes : ℕ → ℕ → ℕ → ℕ → Bool
-is-passes capacity D d k = cond (ltb d D) (is-limited capacity k) (eqb k 0)
+-- A value is at most its variable's capacity, and 0 "at index K or higher"
+abbrev pub is-value : List ℕ → ℕ → ℕ → ℕ → Bool
+is-value capacities K i v = cond (ltb i K) (leb v (capacity-of capacities (register i))) (eqb v 0)
+
+-- Passes left of the loop inside d loops: 1 to capacity "for a loop whose body or `endloop` holds its line", 0 "for any other". The pairs
+-- that hold the line are given; "for a passes-left" the capacity is "that of its loop's variable"
+abbrev pub is-passes : List ℕ → List Opening → ℕ → ℕ → Bool
+is-passes capacities os d k =
+    cond (ltb d (S.loops os)) (is-limited (capacity-of capacities (register (S.loop-variable os d))) k) (eqb k 0)
 
 -- "a capacity outside 1 to 1,024, a line outside 1 to the line after the last", a value or a passes-left that is not as above
 unfoldable pub is-source : List Command → SourceState → Bool
 is-source p s =
-    is-limited Limits.most-capacity (s .capacity)
+    are-capacities (variables p) (s .capacities)
     && is-limited (suc (length p)) (s .state .line)
-    && all-below Limits.state-values (λ i. is-value (s .capacity) (variables p) i (s .state .values i))
-    && all-below Limits.state-passes (λ d. is-passes (s .capacity) (S.depth p (s .state .line)) d (s .state .passes d))
+    && all-below Limits.state-values (λ i. is-value (s .capacities) (variables p) i (s .state .values i))
+    && all-below Limits.state-passes (λ d. is-passes (s .capacities) (S.open-at p (s .state .line)) d (s .state .passes d))
 
 -- "A source state has …": what `is-source` tests (place 0)
 unfoldable pub rule-9 : List Command → SourceState → Option Refusal
@@ -263,7 +271,27 @@ read-table-for registers t = answer (or-else (table-fault t) (rule-15 next-entry
 abbrev pub instructions : List Entry → List Instruction
 instructions t = present (map instruction-of t)
 
--- Sheets: rules 16 to 18, of a program of K variables
+-- Capacities: rule 21, of a program of K variables whose word is run on registers of these capacities
+
+-- "the largest of a variable": of registers 1 to K, named or not
+unfoldable pub largest : (ℕ → ℕ) → ℕ → ℕ
+largest capacity zero = 0
+largest capacity (suc K) = max (largest capacity K) (capacity (register K))
+
+-- An instruction names "a scratch or counter register": one above K
+abbrev pub names-above : ℕ → Instruction → Bool
+names-above K i = names-register (kind i) && ltb K (operand i)
+
+-- It names none, or none "of less capacity than the largest of a variable"
+abbrev pub is-roomy : (ℕ → ℕ) → ℕ → Instruction → Bool
+is-roomy capacity K i = not (names-above K i) || leb (largest capacity K) (capacity (operand i))
+
+-- "in a call that is given a program and runs its word, a scratch or counter register that the word names, of less capacity than the
+-- largest of a variable (place 0)"
+unfoldable pub rule-21 : (ℕ → ℕ) → List Command → Option Refusal
+rule-21 capacity p = unless (all (is-roomy capacity (variables p)) (word-of p)) 21 0
+
+-- Sheets: rules 16 to 18, of a program of K variables, with the capacities of its registers
 
 -- "The sheet is empty, too long, or doesn't end in LF (place 0)"
 unfoldable pub sheet-size-fault : Bytes → Option Refusal
@@ -274,27 +302,37 @@ abbrev pub names-fault : ℕ → Option (List ℕ) → Option Refusal
 names-fault K none = refuse 16 1
 names-fault K (some ns) = unless (leb (above ns) K && distinct ns) 17 1
 
--- Line n of values, for so many names: 16, "a line has the wrong shape or count"; 18, "A value is above the capacity"
-abbrev pub values-fault : ℕ → ℕ → ℕ → Option (List ℕ) → Option Refusal
-values-fault capacity count n none = refuse 16 n
-values-fault capacity count n (some vs) = or-else (unless (eqb (length vs) count) 16 n) (unless (all (λ v. leb v capacity) vs) 18 n)
+-- Each value is at most the capacity of the variable that its column names: "A variable's capacity is that of its register"
+unfoldable pub within-columns : List ℕ → List ℕ → List ℕ → Bool
+within-columns capacities [] vs = true
+within-columns capacities (n ∷ ns) [] = true
+within-columns capacities (n ∷ ns) (v ∷ vs) = leb v (capacity-of capacities (register n)) && within-columns capacities ns vs
 
-unfoldable pub rows-fault : ℕ → ℕ → ℕ → List Bytes → Option Refusal
-rows-fault capacity count n [] = none
-rows-fault capacity count n (l ∷ ls) = or-else (values-fault capacity count n (values l)) (rows-fault capacity count (suc n) ls)
+-- Line n of values, for the names ns: 16, "a line has the wrong shape or count"; 18, "A value is above the capacity"
+abbrev pub values-fault : List ℕ → List ℕ → ℕ → Option (List ℕ) → Option Refusal
+values-fault capacities ns n none = refuse 16 n
+values-fault capacities ns n (some vs) =
+    or-else (unless (eqb (length vs) (length ns)) 16 n) (unless (within-columns capacities ns vs) 18 n)
+
+unfoldable pub rows-fault : List ℕ → List ℕ → ℕ → List Bytes → Option Refusal
+rows-fault capacities ns n [] = none
+rows-fault capacities ns n (l ∷ ls) = or-else (values-fault capacities ns n (values l)) (rows-fault capacities ns (suc n) ls)
 
 -- The names of a sheet, in order
 abbrev pub names-of : List Bytes → List ℕ
 names-of [] = []
 names-of (l ∷ ls) = default [] (names l)
 
-abbrev pub sheet-lines-fault : ℕ → ℕ → List Bytes → Option Refusal
-sheet-lines-fault capacity K [] = none
-sheet-lines-fault capacity K (l ∷ ls) = or-else (names-fault K (names l)) (rows-fault capacity (length (names-of (l ∷ ls))) 2 ls)
+abbrev pub sheet-lines-fault : ℕ → List ℕ → List Bytes → Option Refusal
+sheet-lines-fault K capacities [] = none
+sheet-lines-fault K capacities (l ∷ ls) = or-else (names-fault K (names l)) (rows-fault capacities (names-of (l ∷ ls)) 2 ls)
 
 -- "16 to 18 [go line by line] after the size rules of 16"
-unfoldable pub sheet-fault : ℕ → ℕ → Bytes → Option Refusal
-sheet-fault capacity K t = or-else (sheet-size-fault t) (sheet-lines-fault capacity K (split-lines t))
+unfoldable pub sheet-fault-for : ℕ → List ℕ → Bytes → Option Refusal
+sheet-fault-for K capacities t = or-else (sheet-size-fault t) (sheet-lines-fault K capacities (split-lines t))
+
+abbrev pub sheet-fault : List Command → List ℕ → Bytes → Option Refusal
+sheet-fault p capacities t = sheet-fault-for (variables p) capacities t
 
 -- Lent outputs
 

@@ -3,7 +3,7 @@ use mathlib.Core.Path.{_≡_, subst}
 use mathlib.Core.Logic.{_≢_}
 use Prim.Native.Nat.{ℕ}
 use native.Mathlib.Omega.{arith}
-use Rattle.theory.specs.Runs.{Outcome, run, unlimited, within}
+use Rattle.theory.specs.Runs.{Outcome, run, unlimited, within-each}
 use Rattle.theory.specs.ProgramText.{variables}
 use Rattle.theory.specs.Word as W
 use Rattle.theory.specs.Machines.{fresh-word}
@@ -18,7 +18,7 @@ use Rattle.tidy.proofs.Tidy.{tidy-demand-of-programs}
 pub tidy-value : TidyValue
 tidy-value p a v capacity b n e =
     let start : W.State = fresh-word (variables p) v in
-    let o : Outcome W.State = run (W.machine (within capacity) (tidy-word-of p)) b n start in
+    let o : Outcome W.State = run (W.machine (within-each capacity) (tidy-word-of p)) b n start in
     let not-spent : o .end ≢ Spent = λ z. let y : _≡_ {A = ℕ} 0 1 = cc in omega arith in
     let not-full : o .end ≢ Full = λ z. let y : _≡_ {A = ℕ} 0 1 = cc in omega arith in
     let u : _ = word-unlimited (tidy-word-of p) capacity b n start in

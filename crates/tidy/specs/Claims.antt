@@ -3,7 +3,7 @@ use mathlib.Core.Path.{_≡_}
 use mathlib.Core.List.{List}
 use Prim.Native.Nat.{ℕ, zero, suc, _+_, _*_, _≤_}
 use Rattle.theory.specs.ProgramText.{Command, variables, Block, lines}
-use Rattle.theory.specs.Runs.{run, unlimited, within}
+use Rattle.theory.specs.Runs.{run, unlimited, within-each}
 use Rattle.theory.specs.Source as S
 use Rattle.theory.specs.Word as W
 use Rattle.theory.specs.Word.{Instruction}
@@ -61,12 +61,12 @@ TidyChargesByValues =
 abbrev pub TidyNothingToClear : Type 0
 TidyNothingToClear = (p : List Command) → Accepted p → variables p ≤ 1 → tidy-word-of p ≡ word-of p
 
--- 2. On a set. Where the tidy word's run ends as halted, with whatever capacity, budget and count of steps, so does the program's unlimited
--- run, and on a machine of any number of registers the answer is that value, never untidy
+-- 2. On a set. Where the tidy word's run ends as halted, with whatever capacities, budget and count of steps, so does the program's
+-- unlimited run, and on a machine of any number of registers the answer is that value, never untidy
 abbrev pub TidyValue : Type 0
 TidyValue =
-    (p : List Command) → Accepted p → (v : ℕ → ℕ) (capacity b n : ℕ)
-    → let o = run (W.machine (within capacity) (tidy-word-of p)) b n (fresh-word (variables p) v) in
+    (p : List Command) → Accepted p → (v capacity : ℕ → ℕ) (b n : ℕ)
+    → let o = run (W.machine (within-each capacity) (tidy-word-of p)) b n (fresh-word (variables p) v) in
     o .end ≡ Halted
     → (c : ℕ) × (s : S.State) × SourceRun p (fresh-source v) c s × Ends (S.machine unlimited p) Halted s
     × Tidied p (word-of p) v c s (o .steps) (o .state)

@@ -18,41 +18,41 @@ use Rattle.decoded.proofs.run_gathered.Statement.{statement}
 use Rattle.decoded.proofs.run_gathered.Tie as tie
 
 -- what was gathered
-module _ (c : tie.After-answer) (t : List Entry) (e : c .before .before .before .before .args .g
+module _ (c : tie.After-answer) (t : List Entry) (e : c .before .before .before .before .before .args .g
     ≡ gathered t) where
   read-done : (table-fault t ≡ none) × (c .answer .given .0 .0 ≡ length t)
-  read-done = got-done t _ (gathered-answer t (c .before .before .before .before .args .g) e)
+  read-done = got-done t _ (gathered-answer t (c .before .before .before .before .before .args .g) e)
       (c .answer .given .0 .0) (c .answer .given .1)
 
-  read-kinds : take (c .answer .given .0 .0) (c .before .before .before .before .args .g .kinds)
+  read-kinds : take (c .answer .given .0 .0) (c .before .before .before .before .before .args .g .kinds)
       ≡ kinds-of t
-  read-kinds = got-kinds t (c .before .before .before .before .args .g) e (read-done .0)
+  read-kinds = got-kinds t (c .before .before .before .before .before .args .g) e (read-done .0)
       (c .answer .given .0 .0) (read-done .1)
 
-  read-operands : take (c .answer .given .0 .0) (c .before .before .before .before .args .g .operands)
+  read-operands : take (c .answer .given .0 .0) (c .before .before .before .before .before .args .g .operands)
       ≡ operands-of t
-  read-operands = got-operands t (c .before .before .before .before .args .g) e (read-done .0)
+  read-operands = got-operands t (c .before .before .before .before .before .args .g) e (read-done .0)
       (c .answer .given .0 .0) (read-done .1)
 
   read-table : zipped (take (c .answer .given .0 .0)
-      (c .before .before .before .before .args .g .kinds)) (take (c .answer .given .0 .0)
-      (c .before .before .before .before .args .g .operands)) ≡ t
+      (c .before .before .before .before .before .args .g .kinds)) (take (c .answer .given .0 .0)
+      (c .before .before .before .before .before .args .g .operands)) ≡ t
   read-table = rw (read-kinds, read-operands) (zipped-self t)
 
 kinds-fit : (c : tie.After-answer) → c .answer .given .0 .0 ≤ length
-    (c .before .before .before .before .args .g .kinds)
+    (c .before .before .before .before .before .args .g .kinds)
 kinds-fit c =
-    let p = c .before .before .before .before .pre in
+    let p = c .before .before .before .before .before .pre in
     let d = read-done c (p .0) (p .1) in
-    kinds-room (p .0) (c .before .before .before .before .args .g) (p .1) (d .0)
+    kinds-room (p .0) (c .before .before .before .before .before .args .g) (p .1) (d .0)
     (c .answer .given .0 .0) (d .1)
 
 operands-fit : (c : tie.After-answer) → c .answer .given .0 .0 ≤ length
-    (c .before .before .before .before .args .g .operands)
+    (c .before .before .before .before .before .args .g .operands)
 operands-fit c =
-    let p = c .before .before .before .before .pre in
+    let p = c .before .before .before .before .before .pre in
     let d = read-done c (p .0) (p .1) in
-    operands-room (p .0) (c .before .before .before .before .args .g) (p .1) (d .0)
+    operands-room (p .0) (c .before .before .before .before .before .args .g) (p .1) (d .0)
     (c .answer .given .0 .0) (d .1)
 
 enum-known-answer : tie.Need-enum-known-answer
@@ -90,8 +90,9 @@ returns c =
     λ t e.
     let n = c .before .before .before .before in
     let r = n .before .before .before .before .before .before .before .before in
-    let a = r .before .before .before .before .args in
-    table-ran (memory (a .m) (a .store .now) (a .lengths .now)) (a .at) (a .budget) t (read-table r t e) (n .run-numbers .ensures)
+    let a = r .before .before .before .before .before .args in
+    table-ran (memory (a .capacities .now) (a .store .now) (a .lengths .now)) (a .at) (a .budget) t (read-table r t e) (n .run-numbers
+    .ensures)
 
 same-length-3 : tie.Need-same-length-3
 same-length-3 c = search needs
@@ -102,8 +103,8 @@ same-length-4 c = search needs
 returns-2 : tie.Need-returns-2
 returns-2 c =
     λ t e.
-    let a = c .before .before .before .before .before .before .before .before .args in
-    let m = memory (a .m) (a .store .now) (a .lengths .now) in
+    let a = c .before .before .before .before .before .before .before .before .before .args in
+    let m = memory (a .capacities .now) (a .store .now) (a .lengths .now) in
     rw (c .turned-down .ensures)
     (sym (table-refused m (a .at) (a .budget) t _ (got-refused t _ (gathered-answer t (a .g) e) _ (c .before .before .before .before
     .answer2 .given .1))))

@@ -52,12 +52,9 @@ use Rattle.records.proofs.gather as gather
 use Rattle.records.proofs.gather.Symbol as gather-def
 use Rattle.records.proofs.gather.Symbol.{name as #records·gather}
 use Rattle.records.proofs.gather.Met as gather-thm
-use Rattle.memory.specs.declared.answers.Machine.{Machine}
 use Rattle.memory.specs.declared.answers.Position.{Position}
 use Rattle.memory.specs.declared.answers.Run.{Run}
 use Rattle.memory.specs.Calls.{memory, handed, table-called}
-use Rattle.memory.proofs.answers.Machine as TM
-use Rattle.memory.proofs.answers.Machine.Laws as TM′
 use Rattle.memory.proofs.answers.Position as TP
 use Rattle.memory.proofs.answers.Position.Laws as TP′
 use Rattle.memory.proofs.answers.Run as TR
@@ -72,18 +69,18 @@ use Rattle.decoded.proofs.run_table.Statement as stated
 use Rattle.decoded.proofs.run_table.Code as code
 
 abbrev Arg : Type 0
-Arg = Machine × (RefT (List ℕ) × (RefT (List ℕ) × (Position × (RefT (List Instruction) × (ℕ × Unit {0})))))
+Arg = RefT (List ℕ) × (RefT (List ℕ) × (RefT (List ℕ) × (Position × (RefT (List Instruction) × (ℕ × Unit {0})))))
 
 abbrev stayed : Stays (f.ended .signature .params) (f.ended .kept)
 stayed = (
-  stay-dropped (plain (λ _. TM.the-row)) yes,
+  stay-dropped (shrSliceOf (0 ∷ []) tt (plain (λ _. u16))) yes,
   (
-    gave-slice (0 ∷ []) tt (plain (λ _. u8)),
+    gave-slice (1 ∷ []) tt (plain (λ _. u8)),
     (
-      gave-slice (1 ∷ []) tt (plain (λ _. u16)),
+      gave-slice (2 ∷ []) tt (plain (λ _. u16)),
       (
         stay-dropped (plain (λ _. TP.the-row)) yes,
-        (stay-dropped (shrSliceOf (2 ∷ []) tt (plain (λ _. TI.the-row))) yes, (stay-dropped (plain (λ _. u32)) yes, tt)),
+        (stay-dropped (shrSliceOf (3 ∷ []) tt (plain (λ _. TI.the-row))) yes, (stay-dropped (plain (λ _. u32)) yes, tt)),
       ),
     ),
   ),
@@ -97,10 +94,11 @@ module _ {M : Type 1} (𝓤 : URA M) (H : Heap 𝓤) (A : Atoms 𝓤) (mem : Mem
   RunC = tripleOf 𝓤 H A runs.signature (runs.spec 𝓤 H A mem run)
 
 module _ {M : Type 1} (𝓤 : URA M) (H : Heap 𝓤) (A : Atoms 𝓤) (W : Given 𝓤 H A) (mem : Memory → SProp 𝓤) (run : Routine → Fun 𝓤)
-    (κ₀ κ₁ κ₂ : Lft) (q₀ q₁ q₂ : Share) (m : Machine) (x₀ x₁ : RefT (List ℕ)) (p : Position) (x₂ : RefT (List Instruction)) (budget : ℕ)
+    (κc κ₀ κ₁ κ₂ : Lft) (qc q₀ q₁ q₂ : Share) (xc x₀ x₁ : RefT (List ℕ)) (p : Position) (x₂ : RefT (List Instruction)) (budget : ℕ)
+    (roomc : Room u16 (length (xc .now)))
     (room₀ : Room u8 (length (x₀ .now))) (room₁ : Room u16 (length (x₁ .now))) (room₂ : Room TI.the-row (length (x₂ .now))) where
-  abbrev vm : Val
-  vm = LL.tuple-val TM.the-type TM′.the-laws (TM.the-type .to m)
+  abbrev vc : Val
+  vc = sliceVal (xc .ptr) (length (xc .now))
 
   abbrev vp : Val
   vp = LL.tuple-val TP.the-type TP′.the-laws (TP.the-type .to p)
@@ -115,22 +113,22 @@ module _ {M : Type 1} (𝓤 : URA M) (H : Heap 𝓤) (A : Atoms 𝓤) (W : Given
   v₂ = sliceVal (x₂ .ptr) (length (x₂ .now))
 
   abbrev x : Arg
-  x = (m, (x₀, (x₁, (p, (x₂, (budget, tt))))))
+  x = (xc, (x₀, (x₁, (p, (x₂, (budget, tt))))))
 
   abbrev at : List Val × (List Val × (List Val × (List Val × (List Val × (List Val × Unit {0})))))
-  at = (vm ∷ [], (v₀ ∷ [], (v₁ ∷ [], (vp ∷ [], (v₂ ∷ [], (vint w32 budget ∷ [], tt))))))
+  at = (vc ∷ [], (v₀ ∷ [], (v₁ ∷ [], (vp ∷ [], (v₂ ∷ [], (vint w32 budget ∷ [], tt))))))
 
-  abbrev κs₃ : Lfts 3
-  κs₃ = (κ₀, (κ₁, (κ₂, tt)))
+  abbrev κs₄ : Lfts 4
+  κs₄ = (κc, (κ₀, (κ₁, (κ₂, tt))))
 
-  abbrev qs₃ : Shares 3
-  qs₃ = (q₀, (q₁, (q₂, tt)))
+  abbrev qs₄ : Shares 4
+  qs₄ = (qc, (q₀, (q₁, (q₂, tt))))
 
   abbrev t : List Entry
   t = entries-of (x₂ .now)
 
   abbrev Post : Val → SProp 𝓤
-  Post = walkOf 𝓤 H A f.ended stayed (f.clauses 𝓤 H A mem run) .post ((κs₃, qs₃, tt, x, at), tt)
+  Post = walkOf 𝓤 H A f.ended stayed (f.clauses 𝓤 H A mem run) .post ((κs₄, qs₄, tt, x, at), tt)
 
   -- the call of `gather`
   abbrev to₁ : Gather 𝓤 H A mem run .Ghost
@@ -146,71 +144,76 @@ module _ {M : Type 1} (𝓤 : URA M) (H : Heap 𝓤) (A : Atoms 𝓤) (W : Given
   said₁ g = exE 𝓤 _ (λ us. snd∗ 𝓤 (sem 𝓤 H A (lasts gather.ended (κ₂, tt) (x₂, tt) us)) (fact 𝓤 (g ≡ gathered t)))
 
   -- the call of `run_gathered`, on the gathered table g at its machine value u
-  abbrev κs₂ : Lfts 2
-  κs₂ = (κ₀, (κ₁, tt))
+  abbrev κs₃ : Lfts 3
+  κs₃ = (κc, (κ₀, (κ₁, tt)))
 
-  abbrev args₂ : Gathered → Machine × (RefT (List ℕ) × (RefT (List ℕ) × (Position × (Gathered × (ℕ × Unit {0})))))
-  args₂ g = (m, (x₀, (x₁, (p, (g, (budget, tt))))))
+  abbrev qs₃ : Shares 3
+  qs₃ = (qc, (q₀, (q₁, tt)))
+
+  abbrev args₂ : Gathered → RefT (List ℕ) × (RefT (List ℕ) × (RefT (List ℕ) × (Position × (Gathered × (ℕ × Unit {0})))))
+  args₂ g = (xc, (x₀, (x₁, (p, (g, (budget, tt))))))
 
   abbrev passed₂ : Val → List Val × (List Val × (List Val × (List Val × (List Val × (List Val × Unit {0})))))
-  passed₂ u = (vm ∷ [], (v₀ ∷ [], (v₁ ∷ [], (vp ∷ [], (u ∷ [], (vint w32 budget ∷ [], tt))))))
+  passed₂ u = (vc ∷ [], (v₀ ∷ [], (v₁ ∷ [], (vp ∷ [], (u ∷ [], (vint w32 budget ∷ [], tt))))))
 
   abbrev to₂ : Gathered → Val → RunC 𝓤 H A mem run .Ghost
-  to₂ g u = ((κs₂, (q₀, (q₁, tt)), tt, args₂ g, passed₂ u), tt)
+  to₂ g u = ((κs₃, qs₃, tt, args₂ g, passed₂ u), tt)
 
-  abbrev tokens₂ : Item 𝓤
-  tokens₂ = ‵ (flft κ₀ q₀) ⊛ ‵ (flft κ₁ q₁) ⊛ ‵ ftrue
+  abbrev tokens₃ : Item 𝓤
+  tokens₃ = ‵ (flft κc qc) ⊛ ‵ (flft κ₀ q₀) ⊛ ‵ (flft κ₁ q₁) ⊛ ‵ ftrue
 
   asked₂ : (g : Gathered) (u : Val) → g ≡ gathered t
-      → ent 𝓤 (onEntry 𝓤 H A runs.signature κs₂ (q₀, (q₁, tt)) (args₂ g) (passed₂ u)) (RunC 𝓤 H A mem run .pre (to₂ g u))
+      → ent 𝓤 (onEntry 𝓤 H A runs.signature κs₃ qs₃ (args₂ g) (passed₂ u)) (RunC 𝓤 H A mem run .pre (to₂ g u))
   asked₂ g u e =
-      qed W (tokens₂ ∷ ‵ (owns (TM.the-row ∷ MutSlice (named 0) κ₀ u8 ∷ MutSlice (named 1) κ₁ u16 ∷ TP.the-row ∷ TG.the-row ∷ u32 ∷ [])
+      qed W (tokens₃ ∷ ‵ (owns (ShrSlice (named 0) κc u16 ∷ MutSlice (named 1) κ₀ u8 ∷ MutSlice (named 2) κ₁ u16 ∷ TP.the-row ∷ TG.the-row
+      ∷ u32 ∷ [])
       (args₂ g) (passed₂ u)) ∷ []) ∵ says ! (t, e) $ frame ! $ done !
 
-  abbrev Ran : (g : Gathered) → Run → Lasts runs.ended κs₂ (args₂ g) → Type 0
+  abbrev Ran : (g : Gathered) → Run → Lasts runs.ended κs₃ (args₂ g) → Type 0
   Ran g r zs =
-      (u : List Entry) → g ≡ gathered u → handed r (zs .1 .0) (zs .1 .1 .0) ≡ table-called (memory m (x₀ .now) (x₁ .now)) p budget u
+      (u : List Entry) → g ≡ gathered u → handed r (zs .1 .0) (zs .1 .1 .0) ≡ table-called (memory (xc .now) (x₀ .now) (x₁ .now)) p budget u
 
-  abbrev Kept : (g : Gathered) → Run → Val → Lasts runs.ended κs₂ (args₂ g) → List (Item 𝓤)
+  abbrev Kept : (g : Gathered) → Run → Val → Lasts runs.ended κs₃ (args₂ g) → List (Item 𝓤)
   Kept g r v zs =
-      tokens₂ ∷ (‵ (flft κ₂ q₂) ⊛ ‵ ftrue) ∷ ‵ (finally u8 (x₀ .name) (zs .1 .0)) ∷ ‵ (finally u16 (x₁ .name) (zs .1 .1 .0))
+      tokens₃ ∷ (‵ (flft κ₂ q₂) ⊛ ‵ ftrue) ∷ ‵ (finally u8 (x₀ .name) (zs .1 .0)) ∷ ‵ (finally u16 (x₁ .name) (zs .1 .1 .0))
       ∷ ‵ (TR.the-row .own r (v ∷ [])) ∷ []
 
-  exits : (g : Gathered) (r : Run) (v : Val) (zs : Lasts runs.ended κs₂ (args₂ g)) → length (zs .1 .0) ≡ length (x₀ .now)
+  exits : (g : Gathered) (r : Run) (v : Val) (zs : Lasts runs.ended κs₃ (args₂ g)) → length (zs .1 .0) ≡ length (x₀ .now)
       → length (zs .1 .1 .0) ≡ length (x₁ .now)
-      → handed r (zs .1 .0) (zs .1 .1 .0) ≡ table-called (memory m (x₀ .now) (x₁ .now)) p budget t → ent 𝓤 (⋆ 𝓤 H A (Kept g r v zs))
+      → handed r (zs .1 .0) (zs .1 .1 .0) ≡ table-called (memory (xc .now) (x₀ .now) (x₁ .now)) p budget t → ent 𝓤 (⋆ 𝓤 H A (Kept g r v zs))
       (Post v)
   exits g r v zs e₀ e₁ is =
       qed W (Kept g r v zs) ∵
-      suffices ! _ (ends-at 𝓤 H A f.ended stayed (f.clauses 𝓤 H A mem run) W ((κs₃, qs₃, tt, x, at), tt) v r
+      suffices ! _ (ends-at 𝓤 H A f.ended stayed (f.clauses 𝓤 H A mem run) W ((κs₄, qs₄, tt, x, at), tt) v r
       (zs .0, (zs .1 .0, (zs .1 .1 .0, (zs .1 .1 .1 .0, (tt, (tt, tt)))))) (tt, (e₀, (e₁, (tt, (tt, (tt, tt))))))) $ says ! is $
-      split ! $ move ! (1 ∷ []) $ split ! $
-      -- [κ₁; true; κ₀; κ₂ and true; the last lists; the result]
-      move ! (0 ∷ 3 ∷ []) $ join ! $ move ! (2 ∷ 0 ∷ []) $ join ! $ frame ! $ drop ! $
+      split ! $ move ! (1 ∷ []) $ split ! $ move ! (1 ∷ []) $ split ! $
+      -- [κ₁; true; κ₀; κc; κ₂ and true; the last lists; the result]
+      move ! (0 ∷ 4 ∷ []) $ join ! $ move ! (2 ∷ 0 ∷ []) $ join ! $ move ! (2 ∷ 0 ∷ []) $ join ! $ frame ! $ drop ! $
       nothing ! $ nothing ! $ fjoin ! $ nothing ! $ fjoin ! $ nothing ! $ fjoin ! $ move ! (2 ∷ 0 ∷ []) $ fjoin ! $ move !
       (1 ∷ 0 ∷ []) $ fjoin ! $
       nothing ! $ fjoin ! $ frame ! $ done !
 
   module _ (C : Calls 𝓤 H) (Λ : Loops 𝓤 H) (fm : FmC 𝓤 H (W .laws) C) (known₁ : Triple 𝓤 (C #records·gather) (Gather 𝓤 H A mem run))
       (known₂ : Triple 𝓤 (C #decoded·run-gathered) (RunC 𝓤 H A mem run)) where
-    walk : ent 𝓤 (onEntry 𝓤 H A f.signature κs₃ qs₃ x at)
-        (WpFn 𝓤 H C Λ code.function (vm ∷ v₀ ∷ v₁ ∷ vp ∷ v₂ ∷ vint w32 budget ∷ []) Post)
+    walk : ent 𝓤 (onEntry 𝓤 H A f.signature κs₄ qs₄ x at)
+        (WpFn 𝓤 H C Λ code.function (vc ∷ v₀ ∷ v₁ ∷ vp ∷ v₂ ∷ vint w32 budget ∷ []) Post)
     walk =
-        qed W ((‵ (flft κ₀ q₀) ⊛ ‵ (flft κ₁ q₁) ⊛ ‵ (flft κ₂ q₂) ⊛ ‵ ftrue)
-        ∷ ‵ (owns (TM.the-row ∷ MutSlice (named 0) κ₀ u8 ∷ MutSlice (named 1) κ₁ u16 ∷ TP.the-row ∷ ShrSlice (named 2) κ₂ TI.the-row
-        ∷ u32 ∷ []) x at)
+        qed W ((‵ (flft κc qc) ⊛ ‵ (flft κ₀ q₀) ⊛ ‵ (flft κ₁ q₁) ⊛ ‵ (flft κ₂ q₂) ⊛ ‵ ftrue)
+        ∷ ‵ (owns (ShrSlice (named 0) κc u16 ∷ MutSlice (named 1) κ₀ u8 ∷ MutSlice (named 2) κ₁ u16 ∷ TP.the-row
+        ∷ ShrSlice (named 3) κ₂ TI.the-row ∷ u32 ∷ []) x at)
         ∷ []) ∵
-        split ! $ move ! (1 ∷ []) $ split ! $ move ! (1 ∷ []) $ split ! $ move ! (4 ∷ []) $ fsplit ! $ move ! (1 ∷ []) $ fsplit ! $
+        split ! $ move ! (1 ∷ []) $ split ! $ move ! (1 ∷ []) $ split ! $ move ! (1 ∷ []) $ split ! $
+        move ! (5 ∷ []) $ fsplit ! $ move ! (1 ∷ []) $ fsplit ! $
         move ! (1 ∷ []) $ fsplit ! $ move ! (1 ∷ []) $ fsplit ! $ move ! (1 ∷ []) $ fsplit ! $ move ! (1 ∷ []) $ fsplit ! $
         peeks ! u32 (Is u32) (shows 𝓤 H A u32) budget (vint w32 budget ∷ []) (λ gb. move ! (3 ∷ []) $ peeks ! TP.the-row (Is TP.the-row)
         (shows 𝓤 H A TP.the-row) p (vp ∷ []) (λ gp.
-        move ! (6 ∷ []) $ peeks ! TM.the-row (Is TM.the-row) (shows 𝓤 H A TM.the-row) m (vm ∷ []) (λ gm.
-        enter ! C Λ code.function (vm ∷ v₀ ∷ v₁ ∷ vp ∷ v₂ ∷ vint w32 budget ∷ []) _ $
+        move ! (6 ∷ []) $
+        enter ! C Λ code.function (vc ∷ v₀ ∷ v₁ ∷ vp ∷ v₂ ∷ vint w32 budget ∷ []) _ $
         alloc1 ! (λ l₀. alloc1 !
         (λ l₁. alloc1 ! (λ l₂. alloc1 !
         (λ l₃. alloc1 ! (λ l₄. alloc1 !
         (λ l₅. alloc1 ! (λ l₆. alloc1 ! (λ l₇. alloc1 ! (λ l₈. alloc1 ! (λ l₉. alloc1 ! (λ l₁₀. alloc1 ! (λ l₁₁. alloc0 ! $ params1 ! $
-        pass1 ! (init ! 20 refl (LL.lawful TM.the-type TM′.the-laws 𝓤 H A W .typed m _ gm .0)) $
+        pass1 ! (init ! 20 refl (tt, (tt, (record { fits = roomc .0 }, tt)))) $
         pass1 ! (init ! 18 refl (tt, (tt, (record { fits = room₀ .0 }, tt)))) $ pass1 !
         (init ! 16 refl (tt, (tt, (record { fits = room₁ .0 }, tt)))) $
         pass1 ! (init ! 14 refl (LL.lawful TP.the-type TP′.the-laws 𝓤 H A W .typed p _ gp .0)) $
@@ -236,17 +239,18 @@ module _ {M : Type 1} (𝓤 : URA M) (H : Heap 𝓤) (A : Atoms 𝓤) (W : Given
         land ! (from ! (stop !)) (init ! 2 refl (LL.lawful TG.the-type TG′.the-laws 𝓤 H A W .typed g _ isg .0)) $
         nothing ! $ move ! (29 ∷ 0 ∷ []) $ fjoin ! $ move ! (1 ∷ 0 ∷ []) $ fjoin ! $ move ! (27 ∷ 0 ∷ []) $ fjoin ! $ move !
         (28 ∷ 0 ∷ []) $ fjoin ! $ move ! (28 ∷ 0 ∷ []) $ fjoin ! $ move ! (26 ∷ 0 ∷ []) $ fjoin ! $
-        nothing ! $ move ! (29 ∷ 0 ∷ []) $ join ! $ move ! (29 ∷ 0 ∷ []) $ join ! $ use2 W (raw (RunC 𝓤 H A mem run .pre (to₂ g u)))
+        nothing ! $ move ! (29 ∷ 0 ∷ []) $ join ! $ move ! (29 ∷ 0 ∷ []) $ join ! $ move ! (29 ∷ 0 ∷ []) $ join ! $
+        use2 W (raw (RunC 𝓤 H A mem run .pre (to₂ g u)))
         (asked₂ g u e) $
         calls-at ! fm (RunC 𝓤 H A mem run) known₂ (to₂ g u)
         (and-then ! (load ! (from ! (stop !)) (look ! 22 refl)) (and-then ! (load ! (from ! (stop !)) (look ! 8 refl))
         (and-then ! (load ! (from ! (stop !)) (look ! 4 refl)) (and-then ! (load ! (from ! (stop !)) (look ! 16 refl))
         (and-then ! (load ! (from ! (stop !)) (look ! 2 refl)) (and-then ! (load ! (from ! (stop !)) (look ! 12 refl)) (no-more !)))))))
         (λ v.
-        use1 W (later (some (λ (r : Run). (tokens₂ ⊛ ‵ (TR.the-row .own r (v ∷ [])))
-        ⊛ raw (ensured 𝓤 H A runs.ended (runs.clauses 𝓤 H A mem run) κs₂ (args₂ g) tt r)))) (id⊢ 𝓤 _) $ await ! tt $ pick !
+        use1 W (later (some (λ (r : Run). (tokens₃ ⊛ ‵ (TR.the-row .own r (v ∷ [])))
+        ⊛ raw (ensured 𝓤 H A runs.ended (runs.clauses 𝓤 H A mem run) κs₃ (args₂ g) tt r)))) (id⊢ 𝓤 _) $ await ! tt $ pick !
         (λ r. split ! $ move ! (1 ∷ []) $
-        use1 W (some (λ (zs : Lasts runs.ended κs₂ (args₂ g)). ‵ (lasts runs.ended κs₂ (args₂ g) zs) ⊛ raw (fact 𝓤 (Ran g r zs))))
+        use1 W (some (λ (zs : Lasts runs.ended κs₃ (args₂ g)). ‵ (lasts runs.ended κs₃ (args₂ g) zs) ⊛ raw (fact 𝓤 (Ran g r zs))))
         (id⊢ 𝓤 _) $ pick ! (λ zs. split ! $ move ! (1 ∷ []) $ heard ! (Ran g r zs) (λ done-is.
         fsplit ! $ drop ! $ fsplit ! $ fsplit ! $ move ! (1 ∷ []) $ feqL ! (λ e₀. move ! (1 ∷ []) $ fsplit ! $ fsplit ! $ move !
         (1 ∷ []) $ feqL ! (λ e₁.
@@ -259,7 +263,7 @@ module _ {M : Type 1} (𝓤 : URA M) (H : Heap 𝓤) (A : Atoms 𝓤) (W : Given
         free1 ! $ move ! (20 ∷ 21 ∷ []) $ free1 ! $ move ! (18 ∷ 19 ∷ []) $ free1 ! $ move ! (16 ∷ 17 ∷ []) $ free1 ! $ move !
         (14 ∷ 15 ∷ []) $ free1 ! $ move ! (12 ∷ 13 ∷ []) $ free1 ! $ move ! (10 ∷ 11 ∷ []) $ free1 ! $ move ! (8 ∷ 9 ∷ []) $ free1 ! $
         move ! (6 ∷ 7 ∷ []) $ free1 ! $ free0 ! $
-        keep ! (1 ∷ 5 ∷ 4 ∷ 2 ∷ 0 ∷ []) $ by ! (exits g r v zs e₀ e₁ (done-is t e))))))))))))))))))))))))))))
+        keep ! (1 ∷ 5 ∷ 4 ∷ 2 ∷ 0 ∷ []) $ by ! (exits g r v zs e₀ e₁ (done-is t e)))))))))))))))))))))))))))
 
 module _ {M : Type 1} (𝓤 : URA M) (H : Heap 𝓤) (A : Atoms 𝓤) (W : Given 𝓤 H A) (mem : Memory → SProp 𝓤) (run : Routine → Fun 𝓤) where
   run-table-walks : (C : Calls 𝓤 H) (Λ : Loops 𝓤 H) → FmC 𝓤 H (W .laws) C → Triple 𝓤 (C #records·gather) (Gather 𝓤 H A mem run)
@@ -268,47 +272,43 @@ module _ {M : Type 1} (𝓤 : URA M) (H : Heap 𝓤) (A : Atoms 𝓤) (W : Given
   run-table-walks C Λ fm known₁ known₂ =
       walked 𝓤 H A f.ended stayed (f.clauses 𝓤 H A mem run) (WpFn 𝓤 H C Λ code.function)
       (λ κs. (
-        LL.vals TM.the-type TM′.the-laws,
+        slice-vals,
         (slice-vals, (slice-vals, (LL.vals TP.the-type TP′.the-laws, (slice-vals, (uint-vals w32, tt))))),
       ))
       (λ κs. (
-        LL.tells TM.the-type TM′.the-laws,
+        shr-slice-tells (named 0) (κs .0) u16,
         (
-          mut-slice-tells (named 0) (κs .0) u8,
+          mut-slice-tells (named 1) (κs .1 .0) u8,
           (
-            mut-slice-tells (named 1) (κs .1 .0) u16,
-            (LL.tells TP.the-type TP′.the-laws, (shr-slice-tells (named 2) (κs .1 .1 .0) TI.the-row, (uint-tells w32, tt))),
+            mut-slice-tells (named 2) (κs .1 .1 .0) u16,
+            (LL.tells TP.the-type TP′.the-laws, (shr-slice-tells (named 3) (κs .1 .1 .1 .0) TI.the-row, (uint-tells w32, tt))),
           ),
         ),
       ))
       (λ κs qs bounds a g are. via 𝓤 _ (fst∗ 𝓤 _ (emp 𝓤))
-      (walk 𝓤 H A W mem run (κs .0) (κs .1 .0) (κs .1 .1 .0) (qs .0) (qs .1 .0) (qs .1 .1 .0)
+      (walk 𝓤 H A W mem run (κs .0) (κs .1 .0) (κs .1 .1 .0) (κs .1 .1 .1 .0) (qs .0) (qs .1 .0) (qs .1 .1 .0)
+      (qs .1 .1 .1 .0)
       (a .0) (a .1 .0) (a .1 .1 .0) (a .1 .1 .1 .0) (a .1 .1 .1 .1 .0) (a .1 .1 .1 .1 .1 .0)
-      (are .1 .0 .0 .1) (are .1 .1 .0 .0 .1) (are .1 .1 .1 .1 .0 .0 .1) C Λ fm known₁ known₂))
+      (are .0 .0 .1) (are .1 .0 .0 .1) (are .1 .1 .0 .0 .1) (are .1 .1 .1 .1 .0 .0 .1) C Λ fm known₁ known₂))
 
-  -- sizes and a position are at exit as they were passed
-  silent : Silent 𝓤 H A W 3 (plain (λ _. TM.the-row)) yes
+  -- a position is at exit as it was passed
+  silent : Silent 𝓤 H A W 4 (plain (λ _. TP.the-row)) yes
   silent κs x =
-      subst (λ (e : Exit (TM.the-row .Denot)). (w : Last e x) → left e x w ≡ ftrue) (sym (LL.still TM.the-type TM′.the-copy yes))
-      (λ w. refl)
-
-  silent′ : Silent 𝓤 H A W 3 (plain (λ _. TP.the-row)) yes
-  silent′ κs x =
       subst (λ (e : Exit (TP.the-row .Denot)). (w : Last e x) → left e x w ≡ ftrue) (sym (LL.still TP.the-type TP′.the-copy yes))
       (λ w. refl)
 
-  goes : AllGo 𝓤 H A W 3 (f.signature .params) (f.ended .kept) stayed
+  goes : AllGo 𝓤 H A W 4 (f.signature .params) (f.ended .kept) stayed
   goes = (
-    goes-dropped 𝓤 H A W 3 (plain (λ _. TM.the-row)) yes silent,
+    goes-dropped 𝓤 H A W 4 (shrSliceOf (0 ∷ []) tt (plain (λ _. u16))) yes (λ κs x w. refl),
     (
-      goes-gave-slice 𝓤 H A W 3 0 tt (plain (λ _. u8)),
+      goes-gave-slice 𝓤 H A W 4 1 tt (plain (λ _. u8)),
       (
-        goes-gave-slice 𝓤 H A W 3 1 tt (plain (λ _. u16)),
+        goes-gave-slice 𝓤 H A W 4 2 tt (plain (λ _. u16)),
         (
-          goes-dropped 𝓤 H A W 3 (plain (λ _. TP.the-row)) yes silent′,
+          goes-dropped 𝓤 H A W 4 (plain (λ _. TP.the-row)) yes silent,
           (
-            goes-dropped 𝓤 H A W 3 (shrSliceOf (2 ∷ []) tt (plain (λ _. TI.the-row))) yes (λ κs x w. refl),
-            (goes-dropped 𝓤 H A W 3 (plain (λ _. u32)) yes (λ κs x w. refl), tt),
+            goes-dropped 𝓤 H A W 4 (shrSliceOf (3 ∷ []) tt (plain (λ _. TI.the-row))) yes (λ κs x w. refl),
+            (goes-dropped 𝓤 H A W 4 (plain (λ _. u32)) yes (λ κs x w. refl), tt),
           ),
         ),
       ),

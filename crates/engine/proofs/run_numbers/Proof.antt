@@ -30,8 +30,9 @@ same-length-2 c = search needs
 
 returns : tie.Need-returns
 returns c =
-    let a = c .before .before .before .before .before .before .before .before .before .before .before .before .before .before .args in
-    let m = memory (a .m) (a .store .now) (a .lengths .now) in
+    let a = c .before .before .before .before .before .before .before .before .before .before .before .before .before .before .before
+    .args in
+    let m = memory (a .capacities .now) (a .store .now) (a .lengths .now) in
     let t = zipped (a .kinds .now) (a .operands .now) in
     let passed = got-done t _ (c .before .before .before .before .before .before .before .before .before .check .ensures) _ (c .before
     .before .before .before .before .before .before .enum-told .given .1) .0 in
@@ -45,8 +46,8 @@ same-length-4 c = search needs
 
 returns-2 : tie.Need-returns-2
 returns-2 c =
-    let a = c .before .before .before .before .before .before .before .before .before .before .before .args in
-    let m = memory (a .m) (a .store .now) (a .lengths .now) in
+    let a = c .before .before .before .before .before .before .before .before .before .before .before .before .args in
+    let m = memory (a .capacities .now) (a .store .now) (a .lengths .now) in
     let t = zipped (a .kinds .now) (a .operands .now) in
     rw (c .turned-down .ensures)
     (sym (table-refused m (a .at) (a .budget) t _ (got-refused t _ (c .before .before .before .before .before .before .check .ensures)

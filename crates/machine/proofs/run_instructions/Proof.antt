@@ -24,9 +24,9 @@ enum-known-ended c = search needs
 by-byte-requires : tie.Need-by-byte-requires
 by-byte-requires c κs =
     let a = c .before .before .before .before .before .before .before .before .before .before .before .before .before .before .before
-    .args in
+    .before .args in
     let p = c .before .before .before .before .before .before .before .before .before .before .before .before .before .before .before
-    .pre in
+    .before .pre in
     let same = accepted-paired (a .kinds .now) (a .operands .now) p in
     record {
       same = same;
@@ -47,11 +47,12 @@ returns : tie.Need-returns
 returns c =
     let u = c .before .before .before .before .before .before .before in
     let s = u .before .before .before .before .before .before .before in
-    let a = s .args in
+    let a = s .before .args in
     let z = u .run-numbers .last in
     ap (λ (e : Ended). handed (moved-to (u .run-numbers .result .position) e) (z .1 .0) (z .1 .1 .0)) (c .enum-told .given .1)
-    ∙ ran-by-table (memory (a .m) (a .store .now) (a .lengths .now)) (a .at) (a .budget) (zipped (a .kinds .now) (a .operands .now))
-    (s .pre) _ _ _ (u .run-numbers .ensures) _ (c .enum-told .given .1)
+    ∙ ran-by-table (memory (a .capacities .now) (a .store .now) (a .lengths .now)) (a .at) (a .budget) (zipped (a .kinds .now) (a
+    .operands .now))
+    (s .before .pre) _ _ _ (u .run-numbers .ensures) _ (c .enum-told .given .1)
 
 same-length-3 : tie.Need-same-length-3
 same-length-3 c = search needs
@@ -63,10 +64,11 @@ returns-2 : tie.Need-returns-2
 returns-2 c =
     let u = c .before .before .before .before .before .before .before .before .before in
     let s = u .before .before .before .before .before .before .before in
-    let a = s .args in
+    let a = s .before .args in
     rw (c .by-byte .ensures)
-    (ran-by-table (memory (a .m) (a .store .now) (a .lengths .now)) (a .at) (a .budget) (zipped (a .kinds .now) (a .operands .now))
-    (s .pre) _ _ _ (u .run-numbers .ensures) _ (c .before .before .ended .given .1))
+    (ran-by-table (memory (a .capacities .now) (a .store .now) (a .lengths .now)) (a .at) (a .budget) (zipped (a .kinds .now) (a .operands
+    .now))
+    (s .before .pre) _ _ _ (u .run-numbers .ensures) _ (c .before .before .ended .given .1))
 
 pub run-instructions-spec : {M : Type 1} → statement M
 run-instructions-spec =

@@ -24,10 +24,10 @@ enum-known-count c = search needs
 
 -- what was read
 read : (c : tie.After-count) → let r = c .before .before .before .before .read in
-    Got (c .before .before .before .before .before .before .before .before .before .before .args .word .now) (c .count .given .0 .0)
+    Got (c .before .before .before .before .before .before .before .before .before .before .before .args .word .now) (c .count .given .0 .0)
     (r .last .1 .0) (r .last .1 .1 .0)
 read c =
-    got-done (c .before .before .before .before .before .before .before .before .before .before .args .word .now) _ _ refl refl
+    got-done (c .before .before .before .before .before .before .before .before .before .before .before .args .word .now) _ _ refl refl
     (c .before .before .before .before .read .ensures) (c .count .given .0 .0) (c .count .given .1)
 
 array-share-prefix-kinds : tie.Need-array-share-prefix-kinds
@@ -63,7 +63,7 @@ slice-aggregate-run-instructions-2 c = sym
 run-instructions-requires : tie.Need-run-instructions-requires
 run-instructions-requires c κs =
     let w = c .before .before .before .before .before .before .before .before .before .before .before .before .before .before .before
-    .args .word .now in
+    .before .args .word .now in
     let got = read (c .before .before .before .before .before) in
     rw (got .table) (good-table (word-entries w) (word-good w (got .passes)))
 
@@ -83,8 +83,8 @@ returns : tie.Need-returns
 returns c =
     let r = c .before .before .before .before in
     let a = r .before .before .before .before .before .before .before .before .before .before .before .before .before .before .before
-    .before .args in
-    word-ran (memory (a .m) (a .store .now) (a .lengths .now)) (a .at) (a .budget) (a .word .now)
+    .before .before .args in
+    word-ran (memory (a .capacities .now) (a .store .now) (a .lengths .now)) (a .at) (a .budget) (a .word .now)
     (read (r .before .before .before .before .before .before)) (r .run-instructions .ensures)
 
 same-length-3 : tie.Need-same-length-3
@@ -95,8 +95,9 @@ same-length-4 c = search needs
 
 returns-2 : tie.Need-returns-2
 returns-2 c =
-    let a = c .before .before .before .before .before .before .before .before .before .before .before .before .before .before .args in
-    let m = memory (a .m) (a .store .now) (a .lengths .now) in
+    let a = c .before .before .before .before .before .before .before .before .before .before .before .before .before .before .before
+    .args in
+    let m = memory (a .capacities .now) (a .store .now) (a .lengths .now) in
     let fault = got-refused (a .word .now) _ _ refl refl (c .before .before .before .before .before .before .before .before .read
     .ensures) _ (c .before .before .before .before .r .given .1) in
     rw (c .turned-down .ensures) (sym (word-refused m (a .at) (a .budget) (a .word .now) _ fault))

@@ -1,7 +1,7 @@
 -- `step` meets its contract: a walk of its MIR. The two slices are handed to `run_word` for good, the record is read through its open
 -- borrow and passed by value, and what `run_word` returns is taken apart by two calls: the position is stored in the record, and how the
 -- run ended is the result.
-use mathlib.Core.Path.{_≡_, refl, sym, subst}
+use mathlib.Core.Path.{_≡_, refl}
 use mathlib.Core.List.{List, [], _∷_}
 use Prim.Native.Nat.{ℕ}
 use lib.Dec.{lit<}
@@ -45,16 +45,13 @@ use denote.Triple.Clauses.{Lasts, ensured, lasts}
 use denote.Triple.Entry.{onEntry}
 use denote.Triple.Spec.{Meets, tripleOf}
 use denote.Triple.Table.{entered, cited}
-use denote.Triple.Walked.{says, Stays, stay-ref, gave-slice, stay-dropped, walkOf, AllGo, Silent, goes-ref, goes-gave-slice, goes-dropped}
+use denote.Triple.Walked.{says, Stays, stay-ref, gave-slice, stay-dropped, walkOf, AllGo, goes-ref, goes-gave-slice, goes-dropped}
 use denote.Triple.Walked.{Walks, ends-at, walked, walk-meets}
-use denote.Exit.{yes, Exit, Last, left}
-use Rattle.memory.specs.declared.answers.Machine.{Machine}
+use denote.Exit.{yes}
 use Rattle.memory.specs.declared.answers.Position.{Position}
 use Rattle.memory.specs.declared.answers.Ended.{Ended}
 use Rattle.memory.specs.declared.answers.Run.{Run}
 use Rattle.memory.specs.Calls.{memory, handed, moved-to, word-called}
-use Rattle.memory.proofs.answers.Machine as TM
-use Rattle.memory.proofs.answers.Machine.Laws as TM′
 use Rattle.memory.proofs.answers.Position as TP
 use Rattle.memory.proofs.answers.Position.Laws as TP′
 use Rattle.memory.proofs.answers.Ended as TE
@@ -79,16 +76,16 @@ use Rattle.machine.proofs.step.Statement as stated
 use Rattle.machine.proofs.step.Code as code
 
 abbrev Arg : Type 0
-Arg = Machine × (RefT (List ℕ) × (RefT (List ℕ) × (RefT Position × (RefT (List ℕ) × Unit {0}))))
+Arg = RefT (List ℕ) × (RefT (List ℕ) × (RefT (List ℕ) × (RefT Position × (RefT (List ℕ) × Unit {0}))))
 
 abbrev stayed : Stays (f.ended .signature .params) (f.ended .kept)
 stayed = (
-  stay-dropped (plain (λ _. TM.the-row)) yes,
+  stay-dropped (shrSliceOf (0 ∷ []) tt (plain (λ _. u16))) yes,
   (
-    gave-slice (0 ∷ []) tt (plain (λ _. u8)),
+    gave-slice (1 ∷ []) tt (plain (λ _. u8)),
     (
-      gave-slice (1 ∷ []) tt (plain (λ _. u16)),
-      (stay-ref (2 ∷ []) tt (plain (λ _. TP.the-row)), (stay-dropped (shrSliceOf (3 ∷ []) tt (plain (λ _. u8))) yes, tt)),
+      gave-slice (2 ∷ []) tt (plain (λ _. u16)),
+      (stay-ref (3 ∷ []) tt (plain (λ _. TP.the-row)), (stay-dropped (shrSliceOf (4 ∷ []) tt (plain (λ _. u8))) yes, tt)),
     ),
   ),
 )
@@ -112,11 +109,11 @@ module _ {M : Type 1} (𝓤 : URA M) (H : Heap 𝓤) (A : Atoms 𝓤) (mem : Mem
   said-ended r e = exE 𝓤 _ (λ ws. snd∗ 𝓤 (sem 𝓤 H A (lasts ended-of.ended tt (r, tt) ws)) (fact 𝓤 (e ≡ r .ended)))
 
 module _ {M : Type 1} (𝓤 : URA M) (H : Heap 𝓤) (A : Atoms 𝓤) (W : Given 𝓤 H A) (mem : Memory → SProp 𝓤) (run : Routine → Fun 𝓤)
-    (κ₀ κ₁ κ₂ κ₃ : Lft) (q₀ q₁ q₂ q₃ : Share) (m : Machine) (x₀ x₁ : RefT (List ℕ)) (b₂ o₂ : ℕ) (γ₂ : GName) (h : Position)
-    (x₃ : RefT (List ℕ))
+    (κc κ₀ κ₁ κ₂ κ₃ : Lft) (qc q₀ q₁ q₂ q₃ : Share) (xc x₀ x₁ : RefT (List ℕ)) (b₂ o₂ : ℕ) (γ₂ : GName) (h : Position)
+    (x₃ : RefT (List ℕ)) (roomc : Room u16 (length (xc .now)))
     (room₀ : Room u8 (length (x₀ .now))) (room₁ : Room u16 (length (x₁ .now))) (room₃ : Room u8 (length (x₃ .now))) where
-  abbrev vm : Val
-  vm = LL.tuple-val TM.the-type TM′.the-laws (TM.the-type .to m)
+  abbrev vc : Val
+  vc = sliceVal (xc .ptr) (length (xc .now))
 
   abbrev vp : Val
   vp = LL.tuple-val TP.the-type TP′.the-laws (TP.the-type .to h)
@@ -131,50 +128,53 @@ module _ {M : Type 1} (𝓤 : URA M) (H : Heap 𝓤) (A : Atoms 𝓤) (W : Given
   v₃ = sliceVal (x₃ .ptr) (length (x₃ .now))
 
   abbrev x : Arg
-  x = (m, (x₀, (x₁, (record { ptr = (b₂, o₂); name = γ₂; now = h }, (x₃, tt)))))
+  x = (xc, (x₀, (x₁, (record { ptr = (b₂, o₂); name = γ₂; now = h }, (x₃, tt)))))
 
   abbrev at : List Val × (List Val × (List Val × (List Val × (List Val × Unit {0}))))
-  at = (vm ∷ [], (v₀ ∷ [], (v₁ ∷ [], (vptr b₂ o₂ ∷ [], (v₃ ∷ [], tt)))))
+  at = (vc ∷ [], (v₀ ∷ [], (v₁ ∷ [], (vptr b₂ o₂ ∷ [], (v₃ ∷ [], tt)))))
 
-  abbrev κs₄ : Lfts 4
-  κs₄ = (κ₀, (κ₁, (κ₂, (κ₃, tt))))
+  abbrev κs₅ : Lfts 5
+  κs₅ = (κc, (κ₀, (κ₁, (κ₂, (κ₃, tt)))))
 
-  abbrev qs₄ : Shares 4
-  qs₄ = (q₀, (q₁, (q₂, (q₃, tt))))
+  abbrev qs₅ : Shares 5
+  qs₅ = (qc, (q₀, (q₁, (q₂, (q₃, tt)))))
 
   abbrev Post : Val → SProp 𝓤
-  Post = walkOf 𝓤 H A f.ended stayed (f.clauses 𝓤 H A mem run) .post ((κs₄, qs₄, tt, x, at), tt)
+  Post = walkOf 𝓤 H A f.ended stayed (f.clauses 𝓤 H A mem run) .post ((κs₅, qs₅, tt, x, at), tt)
 
   -- the call of `run_word`
-  abbrev κs₃ : Lfts 3
-  κs₃ = (κ₀, (κ₁, (κ₃, tt)))
+  abbrev κs₄ : Lfts 4
+  κs₄ = (κc, (κ₀, (κ₁, (κ₃, tt))))
 
-  abbrev args₁ : Machine × (RefT (List ℕ) × (RefT (List ℕ) × (Position × (RefT (List ℕ) × (ℕ × Unit {0})))))
-  args₁ = (m, (x₀, (x₁, (h, (x₃, (1, tt))))))
+  abbrev qs₄ : Shares 4
+  qs₄ = (qc, (q₀, (q₁, (q₃, tt))))
+
+  abbrev args₁ : RefT (List ℕ) × (RefT (List ℕ) × (RefT (List ℕ) × (Position × (RefT (List ℕ) × (ℕ × Unit {0})))))
+  args₁ = (xc, (x₀, (x₁, (h, (x₃, (1, tt))))))
 
   abbrev passed₁ : List Val × (List Val × (List Val × (List Val × (List Val × (List Val × Unit {0})))))
-  passed₁ = (vm ∷ [], (v₀ ∷ [], (v₁ ∷ [], (vp ∷ [], (v₃ ∷ [], (vint w32 1 ∷ [], tt))))))
+  passed₁ = (vc ∷ [], (v₀ ∷ [], (v₁ ∷ [], (vp ∷ [], (v₃ ∷ [], (vint w32 1 ∷ [], tt))))))
 
   abbrev to-run : RunC 𝓤 H A mem run .Ghost
-  to-run = ((κs₃, (q₀, (q₁, (q₃, tt))), tt, args₁, passed₁), tt)
+  to-run = ((κs₄, qs₄, tt, args₁, passed₁), tt)
 
-  abbrev tokens₃ : Item 𝓤
-  tokens₃ = ‵ (flft κ₀ q₀) ⊛ ‵ (flft κ₁ q₁) ⊛ ‵ (flft κ₃ q₃) ⊛ ‵ ftrue
+  abbrev tokens₄ : Item 𝓤
+  tokens₄ = ‵ (flft κc qc) ⊛ ‵ (flft κ₀ q₀) ⊛ ‵ (flft κ₁ q₁) ⊛ ‵ (flft κ₃ q₃) ⊛ ‵ ftrue
 
-  asked-run : ent 𝓤 (onEntry 𝓤 H A runs.signature κs₃ (q₀, (q₁, (q₃, tt))) args₁ passed₁) (RunC 𝓤 H A mem run .pre to-run)
+  asked-run : ent 𝓤 (onEntry 𝓤 H A runs.signature κs₄ qs₄ args₁ passed₁) (RunC 𝓤 H A mem run .pre to-run)
   asked-run =
-      qed W (tokens₃ ∷ ‵ (owns (TM.the-row ∷ MutSlice (named 0) κ₀ u8 ∷ MutSlice (named 1) κ₁ u16 ∷ TP.the-row ∷ ShrSlice
-      (named 2) κ₃ u8 ∷ u32 ∷ [])
+      qed W (tokens₄ ∷ ‵ (owns (ShrSlice (named 0) κc u16 ∷ MutSlice (named 1) κ₀ u8 ∷ MutSlice (named 2) κ₁ u16 ∷ TP.the-row ∷ ShrSlice
+      (named 3) κ₃ u8 ∷ u32 ∷ [])
       args₁ passed₁) ∷ []) ∵ join ! $ frame ! $ done !
 
   -- what it ensures
-  abbrev Ran : Run → Lasts runs.ended κs₃ args₁ → Type 0
-  Ran r zs = handed r (zs .1 .0) (zs .1 .1 .0) ≡ word-called (memory m (x₀ .now) (x₁ .now)) h 1 (x₃ .now)
+  abbrev Ran : Run → Lasts runs.ended κs₄ args₁ → Type 0
+  Ran r zs = handed r (zs .1 .0) (zs .1 .1 .0) ≡ word-called (memory (xc .now) (x₀ .now) (x₁ .now)) h 1 (x₃ .now)
 
-  abbrev Moved : Position → Ended → Lasts runs.ended κs₃ args₁ → Type 0
-  Moved p e zs = handed (moved-to p e) (zs .1 .0) (zs .1 .1 .0) ≡ word-called (memory m (x₀ .now) (x₁ .now)) h 1 (x₃ .now)
+  abbrev Moved : Position → Ended → Lasts runs.ended κs₄ args₁ → Type 0
+  Moved p e zs = handed (moved-to p e) (zs .1 .0) (zs .1 .1 .0) ≡ word-called (memory (xc .now) (x₀ .now) (x₁ .now)) h 1 (x₃ .now)
 
-  met : (r : Run) (p : Position) (e : Ended) (zs : Lasts runs.ended κs₃ args₁) → Ran r zs → p ≡ r .position → e ≡ r .ended → Moved p e zs
+  met : (r : Run) (p : Position) (e : Ended) (zs : Lasts runs.ended κs₄ args₁) → Ran r zs → p ≡ r .position → e ≡ r .ended → Moved p e zs
   met r p e zs g ep ee = rw (ep, ee) g
 
   -- the calls that take the result apart
@@ -192,20 +192,21 @@ module _ {M : Type 1} (𝓤 : URA M) (H : Heap 𝓤) (A : Atoms 𝓤) (W : Given
   goes-ended r v =
       qed W (‵ (TR.the-row .own r (v ∷ [])) ∷ []) ∵ nothing ! $ move ! (1 ∷ 0 ∷ []) $ fjoin ! $ nothing ! $ join ! $ frame ! $ done !
 
-  abbrev Kept : Position → Ended → Val → Lasts runs.ended κs₃ args₁ → List (Item 𝓤)
+  abbrev Kept : Position → Ended → Val → Lasts runs.ended κs₄ args₁ → List (Item 𝓤)
   Kept p e y zs =
-      ‵ (fobs γ₂ (TP.the-row .coded .code p)) ∷ ‵ (fbor κ₂ (Body (cells-of TP.the-row) b₂ o₂ γ₂)) ∷ ‵ (flft κ₂ q₂) ∷ tokens₃
+      ‵ (fobs γ₂ (TP.the-row .coded .code p)) ∷ ‵ (fbor κ₂ (Body (cells-of TP.the-row) b₂ o₂ γ₂)) ∷ ‵ (flft κ₂ q₂) ∷ tokens₄
       ∷ ‵ (finally u8 (x₀ .name) (zs .1 .0)) ∷ ‵ (finally u16 (x₁ .name) (zs .1 .1 .0)) ∷ ‵ (TE.the-row .own e (y ∷ [])) ∷ []
 
-  exits : (p : Position) (e : Ended) (y : Val) (zs : Lasts runs.ended κs₃ args₁) → length (zs .1 .0) ≡ length (x₀ .now)
+  exits : (p : Position) (e : Ended) (y : Val) (zs : Lasts runs.ended κs₄ args₁) → length (zs .1 .0) ≡ length (x₀ .now)
       → length (zs .1 .1 .0) ≡ length (x₁ .now) → Moved p e zs → ent 𝓤 (⋆ 𝓤 H A (Kept p e y zs)) (Post y)
   exits p e y zs e₀ e₁ moved =
       qed W (Kept p e y zs) ∵
-      suffices ! _ (ends-at 𝓤 H A f.ended stayed (f.clauses 𝓤 H A mem run) W ((κs₄, qs₄, tt, x, at), tt) y e
+      suffices ! _ (ends-at 𝓤 H A f.ended stayed (f.clauses 𝓤 H A mem run) W ((κs₅, qs₅, tt, x, at), tt) y e
       (zs .0, (zs .1 .0, (zs .1 .1 .0, (p, (tt, tt))))) (tt, (e₀, (e₁, (tt, (tt, tt)))))) $ says ! moved $
-      move ! (3 ∷ []) $ split ! $ move ! (1 ∷ []) $ split ! $
-      -- [κ₁; κ₃ and true; κ₀; obs; the borrow; κ₂; the last lists; the result]
-      move ! (5 ∷ 1 ∷ []) $ join ! $ move ! (1 ∷ 0 ∷ []) $ join ! $ move ! (1 ∷ 0 ∷ []) $ join ! $ frame ! $
+      move ! (3 ∷ []) $ split ! $ move ! (1 ∷ []) $ split ! $ move ! (1 ∷ []) $ split ! $
+      -- [κ₁; κ₃ and true; κ₀; κc; obs; the borrow; κ₂; the last lists; the result]
+      move ! (6 ∷ 1 ∷ []) $ join ! $ move ! (1 ∷ 0 ∷ []) $ join ! $ move ! (1 ∷ 0 ∷ []) $ join ! $ move ! (1 ∷ 0 ∷ []) $ join ! $
+      frame ! $
       nothing ! $ nothing ! $ fjoin ! $ move ! (1 ∷ 2 ∷ []) $ feqI ! (List Val) (vptr b₂ o₂ ∷ []) (vptr b₂ o₂ ∷ []) refl $ fjoin3 ! $
       fjoin ! $
       move ! (2 ∷ 0 ∷ []) $ fjoin ! $ move ! (1 ∷ 0 ∷ []) $ fjoin ! $ nothing ! $ fjoin ! $ frame ! $ done !
@@ -213,22 +214,22 @@ module _ {M : Type 1} (𝓤 : URA M) (H : Heap 𝓤) (A : Atoms 𝓤) (W : Given
   module _ (C : Calls 𝓤 H) (Λ : Loops 𝓤 H) (fm : FmC 𝓤 H (W .laws) C) (known₁ : Triple 𝓤 (C #machine·run-word) (RunC 𝓤 H A mem run))
       (known₂ : Triple 𝓤 (C #machine·position-of) (PositionOf 𝓤 H A mem run)) (known₃ : Triple 𝓤 (C #machine·ended-of)
       (EndedOf 𝓤 H A mem run)) where
-    walk : ent 𝓤 (onEntry 𝓤 H A f.signature κs₄ qs₄ x at) (WpFn 𝓤 H C Λ code.function (vm ∷ v₀ ∷ v₁ ∷ vptr b₂ o₂ ∷ v₃ ∷ []) Post)
+    walk : ent 𝓤 (onEntry 𝓤 H A f.signature κs₅ qs₅ x at) (WpFn 𝓤 H C Λ code.function (vc ∷ v₀ ∷ v₁ ∷ vptr b₂ o₂ ∷ v₃ ∷ []) Post)
     walk =
-        qed W ((‵ (flft κ₀ q₀) ⊛ ‵ (flft κ₁ q₁) ⊛ ‵ (flft κ₂ q₂) ⊛ ‵ (flft κ₃ q₃) ⊛ ‵ ftrue)
-        ∷ ‵ (owns (TM.the-row ∷ MutSlice (named 0) κ₀ u8 ∷ MutSlice (named 1) κ₁ u16 ∷ MutRef (named 2) κ₂ TP.the-row ∷ ShrSlice
-        (named 3) κ₃ u8 ∷ []) x at)
+        qed W ((‵ (flft κc qc) ⊛ ‵ (flft κ₀ q₀) ⊛ ‵ (flft κ₁ q₁) ⊛ ‵ (flft κ₂ q₂) ⊛ ‵ (flft κ₃ q₃) ⊛ ‵ ftrue)
+        ∷ ‵ (owns (ShrSlice (named 0) κc u16 ∷ MutSlice (named 1) κ₀ u8 ∷ MutSlice (named 2) κ₁ u16 ∷ MutRef (named 3) κ₂ TP.the-row
+        ∷ ShrSlice (named 4) κ₃ u8 ∷ []) x at)
         ∷ []) ∵
-        split ! $ move ! (1 ∷ []) $ split ! $ move ! (1 ∷ []) $ split ! $ move ! (1 ∷ []) $ split ! $ move ! (5 ∷ []) $ fsplit ! $
+        split ! $ move ! (1 ∷ []) $ split ! $ move ! (1 ∷ []) $ split ! $ move ! (1 ∷ []) $ split ! $ move ! (1 ∷ []) $ split ! $
+        move ! (6 ∷ []) $ fsplit ! $
         move ! (1 ∷ []) $ fsplit ! $ move ! (1 ∷ []) $ fsplit ! $ move ! (1 ∷ []) $ fsplit ! $ move ! (1 ∷ []) $ fsplit ! $
-        move ! (5 ∷ []) $ peeks ! TM.the-row (Is TM.the-row) (shows 𝓤 H A TM.the-row) m (vm ∷ []) (λ gm. move ! (3 ∷ []) $ fsplit3 ! $
-        drop ! $
-        enter ! C Λ code.function (vm ∷ v₀ ∷ v₁ ∷ vptr b₂ o₂ ∷ v₃ ∷ []) _ $
+        move ! (5 ∷ []) $ move ! (3 ∷ []) $ fsplit3 ! $ drop ! $
+        enter ! C Λ code.function (vc ∷ v₀ ∷ v₁ ∷ vptr b₂ o₂ ∷ v₃ ∷ []) _ $
         alloc1 ! (λ l₀. alloc1 !
         (λ l₁. alloc1 ! (λ l₂. alloc1 !
         (λ l₃. alloc1 ! (λ l₄. alloc1 !
         (λ l₅. alloc1 ! (λ l₆. alloc1 ! (λ l₇. alloc1 ! (λ l₈. alloc1 ! (λ l₉. alloc1 ! (λ l₁₀. alloc1 ! (λ l₁₁. alloc0 ! $ params1 ! $
-        pass1 ! (init ! 20 refl (LL.lawful TM.the-type TM′.the-laws 𝓤 H A W .typed m _ gm .0)) $
+        pass1 ! (init ! 20 refl (tt, (tt, (record { fits = roomc .0 }, tt)))) $
         pass1 ! (init ! 18 refl (tt, (tt, (record { fits = room₀ .0 }, tt)))) $ pass1 !
         (init ! 16 refl (tt, (tt, (record { fits = room₁ .0 }, tt)))) $
         pass1 ! (init ! 14 refl (tt, tt)) $ pass1 ! (init ! 12 refl (tt, (tt, (record { fits = room₃ .0 }, tt)))) $ pass0 ! $
@@ -250,16 +251,17 @@ module _ {M : Type 1} (𝓤 : URA M) (H : Heap 𝓤) (A : Atoms 𝓤) (W : Given
         (init ! 5 refl (LL.lawful TP.the-type TP′.the-laws 𝓤 H A W .typed h _ was .0)) $
         nothing ! $ owned ! u32 (Is u32) (uint-makes 𝓤 H A W w32) 1 _ (refl, lit< tt) $ fjoin ! $ move ! (31 ∷ 0 ∷ []) $ fjoin ! $
         move ! (2 ∷ 0 ∷ []) $ fjoin ! $ move ! (31 ∷ 0 ∷ []) $ fjoin ! $ move ! (31 ∷ 0 ∷ []) $ fjoin ! $ move ! (29 ∷ 0 ∷ []) $ fjoin ! $
-        nothing ! $ move ! (31 ∷ 0 ∷ []) $ join ! $ move ! (32 ∷ 0 ∷ []) $ join ! $ move ! (32 ∷ 0 ∷ []) $ join ! $ use2 W
+        nothing ! $ move ! (31 ∷ 0 ∷ []) $ join ! $ move ! (32 ∷ 0 ∷ []) $ join ! $ move ! (32 ∷ 0 ∷ []) $ join ! $
+        move ! (32 ∷ 0 ∷ []) $ join ! $ use2 W
         (raw (RunC 𝓤 H A mem run .pre to-run)) asked-run $
         calls-at ! fm (RunC 𝓤 H A mem run) known₁ to-run
         (and-then ! (load ! (from ! (stop !)) (look ! 25 refl)) (and-then ! (load ! (from ! (stop !)) (look ! 11 refl))
         (and-then ! (load ! (from ! (stop !)) (look ! 7 refl)) (and-then ! (load ! (from ! (stop !)) (look ! 5 refl))
         (and-then ! (load ! (from ! (stop !)) (look ! 17 refl)) (and-then ! (lit ! tt) (no-more !))))))) (λ v.
-        use1 W (later (some (λ (r : Run). (tokens₃ ⊛ ‵ (TR.the-row .own r (v ∷ [])))
-        ⊛ raw (ensured 𝓤 H A runs.ended (runs.clauses 𝓤 H A mem run) κs₃ args₁ tt r)))) (id⊢ 𝓤 _) $ await ! tt $ pick !
+        use1 W (later (some (λ (r : Run). (tokens₄ ⊛ ‵ (TR.the-row .own r (v ∷ [])))
+        ⊛ raw (ensured 𝓤 H A runs.ended (runs.clauses 𝓤 H A mem run) κs₄ args₁ tt r)))) (id⊢ 𝓤 _) $ await ! tt $ pick !
         (λ r. split ! $ move ! (1 ∷ []) $
-        use1 W (some (λ (zs : Lasts runs.ended κs₃ args₁). ‵ (lasts runs.ended κs₃ args₁ zs) ⊛ raw (fact 𝓤 (Ran r zs)))) (id⊢ 𝓤 _) $
+        use1 W (some (λ (zs : Lasts runs.ended κs₄ args₁). ‵ (lasts runs.ended κs₄ args₁ zs) ⊛ raw (fact 𝓤 (Ran r zs)))) (id⊢ 𝓤 _) $
         pick ! (λ zs. split ! $ move ! (1 ∷ []) $ heard ! (Ran r zs) (λ g.
         fsplit ! $ drop ! $ fsplit ! $ fsplit ! $ move ! (1 ∷ []) $ feqL ! (λ e₀. move ! (1 ∷ []) $ fsplit ! $ fsplit ! $ move !
         (1 ∷ []) $ feqL ! (λ e₁.
@@ -295,7 +297,7 @@ module _ {M : Type 1} (𝓤 : URA M) (H : Heap 𝓤) (A : Atoms 𝓤) (W : Given
         free1 ! $ move ! (22 ∷ 23 ∷ []) $ free1 ! $ move ! (20 ∷ 21 ∷ []) $ free1 ! $ move ! (18 ∷ 19 ∷ []) $ free1 ! $ move !
         (16 ∷ 17 ∷ []) $ free1 ! $ move ! (14 ∷ 15 ∷ []) $ free1 ! $ move ! (12 ∷ 13 ∷ []) $ free1 ! $ move ! (10 ∷ 11 ∷ []) $ free1 ! $
         move ! (8 ∷ 9 ∷ []) $ free1 ! $ free0 ! $
-        keep ! (0 ∷ 1 ∷ 2 ∷ 4 ∷ 7 ∷ 5 ∷ 3 ∷ []) $ by ! (exits p e y zs e₀ e₁ (met r p e zs g ep ee))))))))))))))))))))))))))))))))
+        keep ! (0 ∷ 1 ∷ 2 ∷ 4 ∷ 7 ∷ 5 ∷ 3 ∷ []) $ by ! (exits p e y zs e₀ e₁ (met r p e zs g ep ee)))))))))))))))))))))))))))))))
 
 module _ {M : Type 1} (𝓤 : URA M) (H : Heap 𝓤) (A : Atoms 𝓤) (W : Given 𝓤 H A) (mem : Memory → SProp 𝓤) (run : Routine → Fun 𝓤) where
   step-walks : (C : Calls 𝓤 H) (Λ : Loops 𝓤 H) → FmC 𝓤 H (W .laws) C → Triple 𝓤 (C #machine·run-word) (RunC 𝓤 H A mem run)
@@ -303,39 +305,34 @@ module _ {M : Type 1} (𝓤 : URA M) (H : Heap 𝓤) (A : Atoms 𝓤) (W : Given
       → Walks 𝓤 H A f.ended stayed (WpFn 𝓤 H C Λ code.function) (f.clauses 𝓤 H A mem run)
   step-walks C Λ fm known₁ known₂ known₃ =
       walked 𝓤 H A f.ended stayed (f.clauses 𝓤 H A mem run) (WpFn 𝓤 H C Λ code.function)
-      (λ κs. (LL.vals TM.the-type TM′.the-laws, (slice-vals, (slice-vals, (ptr-vals, (slice-vals, tt))))))
+      (λ κs. (slice-vals, (slice-vals, (slice-vals, (ptr-vals, (slice-vals, tt))))))
       (λ κs. (
-        LL.tells TM.the-type TM′.the-laws,
+        shr-slice-tells (named 0) (κs .0) u16,
         (
-          mut-slice-tells (named 0) (κs .0) u8,
+          mut-slice-tells (named 1) (κs .1 .0) u8,
           (
-            mut-slice-tells (named 1) (κs .1 .0) u16,
-            (mut-tells (named 2) (κs .1 .1 .0) TP.the-row, (shr-slice-tells (named 3) (κs .1 .1 .1 .0) u8, tt)),
+            mut-slice-tells (named 2) (κs .1 .1 .0) u16,
+            (mut-tells (named 3) (κs .1 .1 .1 .0) TP.the-row, (shr-slice-tells (named 4) (κs .1 .1 .1 .1 .0) u8, tt)),
           ),
         ),
       ))
       (λ κs qs bounds a g are. via 𝓤 _ (fst∗ 𝓤 _ (emp 𝓤))
-      (walk 𝓤 H A W mem run (κs .0) (κs .1 .0) (κs .1 .1 .0) (κs .1 .1 .1 .0) (qs .0) (qs .1 .0) (qs .1 .1 .0) (qs .1 .1 .1 .0)
+      (walk 𝓤 H A W mem run (κs .0) (κs .1 .0) (κs .1 .1 .0) (κs .1 .1 .1 .0) (κs .1 .1 .1 .1 .0)
+      (qs .0) (qs .1 .0) (qs .1 .1 .0) (qs .1 .1 .1 .0) (qs .1 .1 .1 .1 .0)
       (a .0) (a .1 .0) (a .1 .1 .0) (a .1 .1 .1 .0 .ptr .0) (a .1 .1 .1 .0 .ptr .1) (a .1 .1 .1 .0 .name) (a .1 .1 .1 .0 .now)
       (a .1 .1 .1 .1 .0)
-      (are .1 .0 .0 .1) (are .1 .1 .0 .0 .1) (are .1 .1 .1 .1 .0 .0 .1) C Λ fm known₁ known₂ known₃))
+      (are .0 .0 .1) (are .1 .0 .0 .1) (are .1 .1 .0 .0 .1) (are .1 .1 .1 .1 .0 .0 .1) C Λ fm known₁ known₂ known₃))
 
-  -- a machine's sizes are at exit as they were passed
-  silent : Silent 𝓤 H A W 4 (plain (λ _. TM.the-row)) yes
-  silent κs x =
-      subst (λ (e : Exit (TM.the-row .Denot)). (w : Last e x) → left e x w ≡ ftrue) (sym (LL.still TM.the-type TM′.the-copy yes))
-      (λ w. refl)
-
-  goes : AllGo 𝓤 H A W 4 (f.signature .params) (f.ended .kept) stayed
+  goes : AllGo 𝓤 H A W 5 (f.signature .params) (f.ended .kept) stayed
   goes = (
-    goes-dropped 𝓤 H A W 4 (plain (λ _. TM.the-row)) yes silent,
+    goes-dropped 𝓤 H A W 5 (shrSliceOf (0 ∷ []) tt (plain (λ _. u16))) yes (λ κs x w. refl),
     (
-      goes-gave-slice 𝓤 H A W 4 0 tt (plain (λ _. u8)),
+      goes-gave-slice 𝓤 H A W 5 1 tt (plain (λ _. u8)),
       (
-        goes-gave-slice 𝓤 H A W 4 1 tt (plain (λ _. u16)),
+        goes-gave-slice 𝓤 H A W 5 2 tt (plain (λ _. u16)),
         (
-          goes-ref 𝓤 H A W 4 2 tt (plain (λ _. TP.the-row)),
-          (goes-dropped 𝓤 H A W 4 (shrSliceOf (3 ∷ []) tt (plain (λ _. u8))) yes (λ κs x w. refl), tt),
+          goes-ref 𝓤 H A W 5 3 tt (plain (λ _. TP.the-row)),
+          (goes-dropped 𝓤 H A W 5 (shrSliceOf (4 ∷ []) tt (plain (λ _. u8))) yes (λ κs x w. refl), tt),
         ),
       ),
     ),

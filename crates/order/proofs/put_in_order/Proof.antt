@@ -1,31 +1,42 @@
 -- `put_in_order` meets its contract: the first `i` places are in order.
-use mathlib.Core.Path.{refl, sym, _∙_}
+use mathlib.Core.Path.{_≡_, refl}
 use native.Mathlib.Omega.{arith}
-use Prim.Native.Nat.{_-_}
+use Prim.Native.Nat.{_-_, min}
 use lib.ListN.{length}
 use borrow.Author.Needs.{needs}
-use Rattle.order.proofs.Turning.{Ordering, ordering-start, ordering-end, place-size, ordering-more}
-use Rattle.order.proofs.Turning.{left-alone, put-as}
+use Rattle.order.proofs.Turning.{Ordering, ordering-start, ordering-end, ordering-more}
 use Rattle.order.proofs.put_in_order.Statement.{statement}
 use Rattle.order.proofs.put_in_order.Tie as tie
 
 abbrev Inv-loop : tie.InvT-loop
-Inv-loop store₀ starts capacity from₀ i₀ store from i = Ordering capacity starts store₀ store from i
+Inv-loop store₀ starts capacities count from₀ i₀ store from i =
+    (count ≡ min (length capacities) (length starts)) × Ordering capacities starts store₀ store from i
 
 abbrev μ-loop : tie.MeasureT-loop
-μ-loop store₀ starts capacity from₀ i₀ store from i = length starts - i
+μ-loop store₀ starts capacities count from₀ i₀ store from i = count - i
 
-returns : tie.Need-returns Inv-loop μ-loop
-returns c = left-alone _ _ _ (c .if1 .taken)
+shorter-requires : tie.Need-shorter-requires Inv-loop μ-loop
+shorter-requires c κs = search needs
 
 loop-holds : tie.Need-loop-holds Inv-loop μ-loop
-loop-holds c = let a = c .before .before .before .args in ordering-start (a .capacity) (a .starts .now) (a .store .now)
+loop-holds c =
+    let a = c .before .before .before .before .args in
+    (c .shorter .ensures, ordering-start (a .capacities .now) (a .starts .now) (a .store .now))
+
+mul-wide : tie.Need-mul-wide Inv-loop μ-loop
+mul-wide c = search needs
+
+shared-slice-read-wide : tie.Need-shared-slice-read-wide Inv-loop μ-loop
+shared-slice-read-wide c = search needs
+
+wide-requires : tie.Need-wide-requires Inv-loop μ-loop
+wide-requires c κs = search needs
 
 sub-shorter : tie.Need-sub-shorter Inv-loop μ-loop
 sub-shorter c = search needs
 
-shorter-requires : tie.Need-shorter-requires Inv-loop μ-loop
-shorter-requires c κs = search needs
+shorter-requires-2 : tie.Need-shorter-requires-2 Inv-loop μ-loop
+shorter-requires-2 c κs = search needs
 
 add-to : tie.Need-add-to Inv-loop μ-loop
 add-to c = search needs
@@ -46,12 +57,7 @@ shared-slice-read-turn : tie.Need-shared-slice-read-turn Inv-loop μ-loop
 shared-slice-read-turn c = search needs
 
 turn-requires : tie.Need-turn-requires Inv-loop μ-loop
-turn-requires c κs =
-    let a = c .before .before .before .before .before .before .before .before .args in
-    let size = place-size (a .capacity) (a .starts .now) (a .store .now) (c .before .before .before .before .loop .inv) (c .before
-    .before .before .loop-test .taken) (c .before .before .shorter .result) _
-    (c .before .before .shorter .ensures) refl in
-    omega (arith, size, c .before .before .shorter .ensures, c .before .before .before .before .before .if1 .left)
+turn-requires c κs = search needs
 
 add-i : tie.Need-add-i Inv-loop μ-loop
 add-i c = search needs
@@ -61,19 +67,24 @@ loop-less c = search needs
 
 loop-again : tie.Need-loop-again Inv-loop μ-loop
 loop-again c =
-    let a = c .before .before .before .before .before .before .before .before .before .before .before .args in
-    ordering-more (a .capacity) (a .starts .now) (a .store .now) (c .before .before .before .before .before .before .before .loop .inv)
-    (c .before .before .before .before .before .before .loop-test .taken) (c .before .before .before .before .before .shorter .result) _
-    (c .before .before .before .before .before .shorter .ensures) refl _ (c .before .before .turn .ensures)
+    let a = c .before .before .before .before .before .before .before .before .before .before .before .before .before .before .args in
+    let inv = c .before .before .before .before .before .before .before .before .before .loop .inv in (
+      inv .0,
+      ordering-more (a .capacities .now) (a .starts .now) (a .store .now) (inv .1)
+          (omega (arith, inv .0, c .before .before .before .before .before .before .before .before .loop-test .taken))
+          (c .before .before .before .before .before .shorter2 .result) _
+          (rw (← c .before .before .before .before .before .before .wide .ensures) (c .before .before .before .before .before .shorter2
+          .ensures)) refl _ (c .before .before .turn .ensures),
+    )
 
 same-length : tie.Need-same-length Inv-loop μ-loop
-same-length c = c .before .loop .inv .same
+same-length c = c .before .loop .inv .1 .same
 
-returns-2 : tie.Need-returns-2 Inv-loop μ-loop
-returns-2 c =
-    let a = c .before .before .before .before .before .args in
-    ordering-end (a .capacity) (a .starts .now) (a .store .now) (c .before .loop .inv) (c .loop-test .left)
-    ∙ sym (put-as (a .capacity) (a .starts .now) (a .store .now) (c .before .before .if1 .left))
+returns : tie.Need-returns Inv-loop μ-loop
+returns c =
+    let a = c .before .before .before .before .before .before .args in
+    let inv = c .before .loop .inv in
+    ordering-end (a .capacities .now) (a .starts .now) (a .store .now) (inv .1) (omega (arith, inv .0, c .loop-test .left))
 
 pub put-in-order-spec : {M : Type 1} → statement M
 put-in-order-spec =
@@ -81,10 +92,13 @@ put-in-order-spec =
     (tie.spec
     Inv-loop
     μ-loop
-    returns
-    loop-holds
-    sub-shorter
     shorter-requires
+    loop-holds
+    mul-wide
+    shared-slice-read-wide
+    wide-requires
+    sub-shorter
+    shorter-requires-2
     add-to
     sub-turn
     part-turn-start
@@ -96,4 +110,4 @@ put-in-order-spec =
     loop-less
     loop-again
     same-length
-    returns-2)
+    returns)

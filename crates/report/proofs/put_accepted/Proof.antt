@@ -1,20 +1,17 @@
--- `put_accepted` meets its contract: the sheet is turned down, or the rows follow.
-use mathlib.Core.Path.{_≡_, subst}
-use mathlib.Core.Option.{some}
+-- `put_accepted` meets its contract: the capacities are turned down, or the sheet follows.
+use mathlib.Core.Path.{_≡_}
 use borrow.Author.Needs.{needs}
-use Rattle.theory.specs.TurnedDown.{sheet-fault}
 use Rattle.theory.specs.ProgramText.{commands}
-use Rattle.report.proofs.Reading.{listed-few}
-use Rattle.report.proofs.Columns.{found-refused, found-accepted}
-use Rattle.report.proofs.Printing.{sheet-refused, refusal-printed}
+use Rattle.report.proofs.Room.{short-refused, roomy-accepted}
+use Rattle.report.proofs.Printing.{room-refused, refusal-printed}
 use Rattle.report.proofs.put_accepted.Statement.{statement}
 use Rattle.report.proofs.put_accepted.Tie as tie
 
 check-requires : tie.Need-check-requires
 check-requires c κs = search needs
 
-enum-known-checked : tie.Need-enum-known-checked
-enum-known-checked c = search needs
+enum-known-r : tie.Need-enum-known-r
+enum-known-r c = search needs
 
 put-refusal-requires : tie.Need-put-refusal-requires
 put-refusal-requires c κs = search needs
@@ -22,29 +19,31 @@ put-refusal-requires c κs = search needs
 enum-told : tie.Need-enum-told
 enum-told c = search needs
 
-put-translated-requires : tie.Need-put-translated-requires
-put-translated-requires c κs =
-    let check = c .before .before .before .before in
-    let start = check .before .before .before .before in
-    let few = listed-few _ _ (start .pre) in
-    let accepted = found-accepted (start .args .variables) (start .args .sheet .now) few (check .check .result) (check .check .ensures) in
-    (start .pre, accepted _ (c .before .enum-told .given .1))
+put-roomy-requires : tie.Need-put-roomy-requires
+put-roomy-requires c κs =
+    let check = c .before .before .before in
+    let start = check .before .before .before .before .before in
+    let a = start .args in
+    let list = a .list .now in (
+      start .pre,
+      roomy-accepted (a .capacities .now) list (commands list) (start .pre .accepted) _ (check .check .ensures) _
+          (c .before .enum-told .given .1),
+    )
 
 same-length : tie.Need-same-length
 same-length c = search needs
 
 returns : tie.Need-returns
 returns c =
-    let check = c .before .before .before .before .before .before .before .before in
-    let start = check .before .before .before .before in
-    let K = start .args .variables in
-    let s = start .args .sheet .now in
-    let few = listed-few _ _ (start .pre) in
-    let refused = c .before .before .before .before .before .checked .given in
-    let r = refused .0 .0 in
-    let down = found-refused K s few (check .check .result) (check .check .ensures) r (refused .1) in
-    let fault = subst (λ k. sheet-fault 1024 k s ≡ some r) (start .pre .named) down in
-    refusal-printed r (sheet-refused (commands (start .args .list .now)) s r fault) (c .before .before .put-refusal .ensures)
+    let at-r = c .before .before .before .before .before in
+    let check = at-r .before .before in
+    let start = check .before .before .before .before .before in
+    let a = start .args in
+    let list = a .list .now in
+    let capacities = a .capacities .now in
+    let r = at-r .r .given .0 .0 in
+    let short = short-refused capacities list (commands list) (start .pre .accepted) _ (check .check .ensures) r (at-r .r .given .1) in
+    refusal-printed r (room-refused capacities (commands list) (a .sheet .now) r short) (c .before .before .put-refusal .ensures)
 
 same-length-2 : tie.Need-same-length-2
 same-length-2 c = search needs
@@ -57,10 +56,10 @@ put-accepted-spec =
     tie.close
     (tie.spec
     check-requires
-    enum-known-checked
+    enum-known-r
     put-refusal-requires
     enum-told
-    put-translated-requires
+    put-roomy-requires
     same-length
     returns
     same-length-2

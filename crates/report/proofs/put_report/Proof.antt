@@ -28,7 +28,7 @@ enum-known-p c = search needs
 
 -- What is known of a program that is read
 passing : (c : tie.After-p) → let read = c .before .before .before in
-    let start = read .before .before .before .before .before in
+    let start = read .before .before .before .before .before .before in
     Read (start .args .text .now) (read .read .last .1 .1 .0) (c .p .given .0 .0)
 passing c =
     let read = c .before .before .before .read in
@@ -63,8 +63,9 @@ returns c =
     let read = at-r .before .before .before .read in
     let refused = sym (at-r .r .given .1) ∙ read .ensures .0 in
     let down = text-turned-down (replicate 1536 0) _ (length-replicate {A = ℕ} 1536 0) (at-r .r .given .0 .0) refused in
-    let start = at-r .before .before .before .before .before .before .before .before in
-    refusal-printed _ (text-refused _ (start .args .sheet .now) _ down) (c .before .before .put-refusal .ensures)
+    let start = at-r .before .before .before .before .before .before .before .before .before in
+    refusal-printed _ (text-refused (start .args .capacities .now) _ (start .args .sheet .now) _ down)
+    (c .before .before .put-refusal .ensures)
 
 same-length-2 : tie.Need-same-length-2
 same-length-2 c = search needs
@@ -74,8 +75,8 @@ returns-2 c =
     let at-p = c .before .before .before .before .before .before .before in
     let r = passing at-p in
     let printed = rw (front-commands _ _ _ r) at (c .before .before .put-accepted .ensures) in
-    let start = at-p .before .before .before .before .before .before .before .before in
-    rw (text-accepted _ (start .args .sheet .now) (r .program) (r .text)) printed
+    let start = at-p .before .before .before .before .before .before .before .before .before in
+    rw (text-accepted (start .args .capacities .now) _ (start .args .sheet .now) (r .program) (r .text)) printed
 
 pub put-report-spec : {M : Type 1} → statement M
 put-report-spec =

@@ -1,5 +1,5 @@
 -- `put_rows` meets its contract. The loop's invariant: the rows passed are put. The measure is what is left of the sheet.
-use mathlib.Core.Path.{refl, _∙_}
+use mathlib.Core.Path.{_≡_, refl, ap, _∙_}
 use mathlib.Core.List.{List}
 use Prim.Native.Nat.{ℕ, _-_, _≤_}
 use native.Mathlib.Omega.{arith}
@@ -7,6 +7,9 @@ use lib.ListN.{length}
 use borrow.Author.Needs.{needs}
 use Rattle.theory.specs.Translation.{word-text}
 use Rattle.theory.specs.ProgramText.{commands}
+use Rattle.capacities.specs.Room.{of-variables}
+use Rattle.sheet.specs.Answers.{row-answer}
+use Rattle.sheet.specs.declared.answers.Row.{Row}
 use Rattle.report.specs.Rows.{Ready, Tabled}
 use Rattle.output.proofs.Puts.{put-length}
 use Rattle.report.proofs.Underway.{Writing}
@@ -19,11 +22,14 @@ ready : {list kinds operands : List ℕ} {K : ℕ} → Tabled list kinds operand
 ready t = record { listed = t .listed; translated = refl }
 
 abbrev Inv-loop : tie.InvT-loop
-Inv-loop list kinds operands variables sheet names out₀ place₀ at₀ n₀ out place at n =
-    Writing (commands list) sheet place₀ out₀ at n place out
+Inv-loop list kinds operands variables capacities sheet names out₀ limits place₀ at₀ n₀ out place at n =
+    Writing capacities (commands list) sheet place₀ out₀ at n place out
 
 abbrev μ-loop : tie.MeasureT-loop
-μ-loop list kinds operands variables sheet names out₀ place₀ at₀ n₀ out place at n = length sheet - at
+μ-loop list kinds operands variables capacities sheet names out₀ limits place₀ at₀ n₀ out place at n = length sheet - at
+
+of-variables-requires : tie.Need-of-variables-requires Inv-loop μ-loop
+of-variables-requires c κs = search needs
 
 put-header-requires : tie.Need-put-header-requires Inv-loop μ-loop
 put-header-requires c κs = search needs
@@ -33,35 +39,41 @@ first-row-requires c κs = search needs
 
 loop-holds : tie.Need-loop-holds Inv-loop μ-loop
 loop-holds c =
-    let start = c .before .before .before .before .before .before .before .before .before .before in
+    let start = c .before .before .before .before .before .before .before .before .before .before .before .before in
     let a = start .args in
     let header = c .before .before .before .put-header in
     let word = word-text (commands (a .list .now)) in
-    rows-begin (a .list .now) word (a .sheet .now) (a .names) (a .variables) (ready (start .pre .0)) (start .pre .1)
+    rows-begin (a .capacities .now) (a .list .now) word (a .sheet .now) (a .names) (a .variables) (ready (start .pre .0)) (start .pre .2)
     (header .result) (header .last .0) (c .first-row .result) (c .first-row .ensures) (omega (arith, header .ensures .next))
     (omega (arith, put-length (header .ensures), header .ensures .sized))
 
+-- The limits of the variables are the first capacities
+limits-are : (l : tie.At-loop Inv-loop μ-loop) → let called = l .before .before .before .before .before .before in
+    called .of-variables .result ≡ of-variables (called .before .before .before .before .before .before .before .args .capacities .now)
+limits-are l = l .before .before .before .before .before .before .of-variables .ensures
+
 -- What is known in a turn of the loop
 turn-at : (c : tie.After-row Inv-loop μ-loop) → let l = c .before .before in
-    let a = l .before .before .before .before .before .before .before .before .before .before .before .args in
+    let a = l .before .before .before .before .before .before .before .before .before .before .before .before .before .args in
     let header = l .before .before .before .before .put-header in
-    Turn (a .list .now) (a .sheet .now) (a .variables) (header .result) (header .last .0)
+    Turn (a .capacities .now) (a .list .now) (a .sheet .now) (a .variables) (header .result) (header .last .0)
     (l .loop .at) (l .loop .n) (l .loop .place) (l .loop .out) (c .row .result)
 turn-at c =
     let l = c .before .before in
-    let start = l .before .before .before .before .before .before .before .before .before .before .before in
+    let start = l .before .before .before .before .before .before .before .before .before .before .before .before .before in
     let a = start .args in
-    turn (a .list .now) (word-text (commands (a .list .now))) (a .sheet .now) (a .names) (a .variables)
-    (ready (start .pre .0)) (start .pre .1)
+    turn (a .capacities .now) (a .list .now) (word-text (commands (a .list .now))) (a .sheet .now) (a .names) (a .variables)
+    (ready (start .pre .0)) (start .pre .2)
     _ _ (l .loop .at) (l .loop .n) (l .loop .place) (l .loop .out) (l .loop .inv)
-    (c .before .loop-test .taken) (c .row .result) (c .row .ensures)
+    (c .before .loop-test .taken) (c .row .result)
+    (c .row .ensures ∙ ap {B = Row} (λ m. row-answer (a .sheet .now) (a .names) m (l .loop .n) (l .loop .at)) (limits-are l))
 
 small-at : (l : tie.At-loop Inv-loop μ-loop) → (l .loop .place ≤ 147467) × (l .loop .n ≤ 4097)
 small-at l =
-    let start = l .before .before .before .before .before .before .before .before .before .before .before in
+    let start = l .before .before .before .before .before .before .before .before .before .before .before .before .before in
     let a = start .args in
-    small (a .list .now) (word-text (commands (a .list .now))) (a .sheet .now) (a .names) (a .variables)
-    (ready (start .pre .0)) (start .pre .1)
+    small (a .capacities .now) (a .list .now) (word-text (commands (a .list .now))) (a .sheet .now) (a .names) (a .variables)
+    (ready (start .pre .0)) (start .pre .2)
     _ _ (l .loop .at) (l .loop .n) (l .loop .place) (l .loop .out) (l .loop .inv)
 
 row-requires : tie.Need-row-requires Inv-loop μ-loop
@@ -70,8 +82,8 @@ row-requires c κs = search needs
 run-row-requires : tie.Need-run-row-requires Inv-loop μ-loop
 run-row-requires c κs =
     let l = c .before .before .before in
-    let start = l .before .before .before .before .before .before .before .before .before .before .before in
-    (start .pre .0, turn-at (c .before) .starts)
+    let start = l .before .before .before .before .before .before .before .before .before .before .before .before .before in
+    (start .pre .0, start .pre .1, limits-are l, turn-at (c .before) .starts)
 
 put-row-requires : tie.Need-put-row-requires Inv-loop μ-loop
 put-row-requires c κs = omega (arith, small-at (c .before .before .before .before .before) .0)
@@ -97,12 +109,12 @@ same-length c =
 
 returns : tie.Need-returns Inv-loop μ-loop
 returns c =
-    let start = c .before .before .before .before .before .before .before .before .before .before .before .before in
+    let start = c .before .before .before .before .before .before .before .before .before .before .before .before .before .before in
     let a = start .args in
     let header = c .before .before .before .before .before .put-header in
     let l = c .before .loop in
-    rows-printed (a .list .now) (word-text (commands (a .list .now))) (a .sheet .now) (a .names) (a .variables)
-    (ready (start .pre .0)) (start .pre .1)
+    rows-printed (a .capacities .now) (a .list .now) (word-text (commands (a .list .now))) (a .sheet .now) (a .names) (a .variables)
+    (ready (start .pre .0)) (start .pre .2)
     (header .result) (l .place) (l .at) (l .n) (a .out .now) (header .last .0) (l .out) (header .ensures) (l .inv) (c .loop-test .left)
 
 pub put-rows-spec : {M : Type 1} → statement M
@@ -111,6 +123,7 @@ put-rows-spec =
     (tie.spec
     Inv-loop
     μ-loop
+    of-variables-requires
     put-header-requires
     first-row-requires
     loop-holds

@@ -23,10 +23,12 @@ enum-known-count c = search needs
 
 -- what was read
 read : (c : tie.After-count) → let r = c .before .before .before .before .read in
-    Got (c .before .before .before .before .before .before .before .before .before .before .before .args .word .now) (c .count .given .0 .0)
+    Got (c .before .before .before .before .before .before .before .before .before .before .before .before .args .word .now)
+    (c .count .given .0 .0)
     (r .last .1 .0) (r .last .1 .1 .0)
 read c =
-    got-done (c .before .before .before .before .before .before .before .before .before .before .before .args .word .now) _ _ refl refl
+    got-done (c .before .before .before .before .before .before .before .before .before .before .before .before .args .word .now)
+    _ _ refl refl
     (c .before .before .before .before .read .ensures) (c .count .given .0 .0) (c .count .given .1)
 
 array-share-prefix-kinds : tie.Need-array-share-prefix-kinds
@@ -61,9 +63,13 @@ slice-aggregate-put-rows-2 c = sym
 
 put-rows-requires : tie.Need-put-rows-requires
 put-rows-requires c κs =
-    let start = c .before .before .before .before .before .before .before .before .before .before .before .before .before .before .before in
-    let got = read (c .before .before .before .before) in
-    (record { listed = start .pre .0 .listed; table = got .table ∙ ap word-entries (start .pre .0 .translated) }, start .pre .1)
+    let at-count = c .before .before .before .before in
+    let start = at-count .before .before .before .before .before .before .before .before .before .before .before .before in
+    let got = read at-count in (
+      record { listed = start .pre .0 .listed; table = got .table ∙ ap word-entries (start .pre .0 .translated) },
+      start .pre .1,
+      start .pre .2,
+    )
 
 enum-known-r : tie.Need-enum-known-r
 enum-known-r c = search needs
@@ -84,7 +90,7 @@ returns-2 : tie.Need-returns-2
 returns-2 c =
     let at-r = c .before .before .before .before .before in
     let called = at-r .before .before .before .before in
-    let start = called .before .before .before .before .before .before .before in
+    let start = called .before .before .before .before .before .before .before .before in
     absurd (word-unrefused (start .pre .0) (got-refused (start .args .word .now) _ _ refl refl (called .read .ensures) _ (at-r .r
     .given .1)))
 

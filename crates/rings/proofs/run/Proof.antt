@@ -4,26 +4,27 @@ use mathlib.Core.Bool.{true}
 use mathlib.Core.Option.{none}
 use native.Mathlib.Omega.{arith}
 use borrow.Author.Tests.{not-true, not-false}
+use lib.ListN.{length}
 use Rattle.theory.specs.Machines.{is-memory}
 use Rattle.word.specs.Answers.{zipped}
 use Rattle.memory.specs.Calls.{memory}
 use Rattle.usable.specs.Usable.{first-unusable}
-use Rattle.rings.proofs.Running.{memory-limits}
-use Rattle.rings.proofs.Whole.{lent-count, lent-good}
+use Rattle.rings.proofs.Running.{memory-sized}
 use Rattle.rings.proofs.AllUsable.{all-usable}
 use Rattle.rings.proofs.Answered.{found, found-none, no-memory, refused-15, all-done}
 use borrow.Author.Needs.{needs}
 use Rattle.rings.proofs.run.Statement.{statement}
 use Rattle.rings.proofs.run.Tie as tie
 
-good : (c : tie.Else1) → let a = c .before .before .before .before .before .before .before .before .args in is-memory (memory (a .m) (a
-    .store .now) (a .lengths .now)) ≡ true
+good : (c : tie.Else1) → let a = c .before .before .before .before .before .before .before .before .before .args in is-memory (memory (a
+    .capacities .now)
+    (a .store .now) (a .lengths .now)) ≡ true
 good c = sym (c .before .is-memory .ensures) ∙ not-false _ (c .if1 .left)
 
 -- the machine can do every entry
 nothing : (c : tie.After-enum-told)
-    → let a = c .before .before .before .before .before .before .before .before .before .before .before .args in
-    first-unusable (a .m .registers) (zipped (a .kinds .now) (a .operands .now)) ≡ none
+    → let a = c .before .before .before .before .before .before .before .before .before .before .before .before .args in
+    first-unusable (length (a .capacities .now)) (zipped (a .kinds .now) (a .operands .now)) ≡ none
 nothing c = found-none _ (sym (c .enum-told .given .1) ∙ c .before .before .first-unusable .ensures)
 
 is-memory-requires : tie.Need-is-memory-requires
@@ -40,8 +41,8 @@ same-length-2 c = search needs
 
 returns : tie.Need-returns
 returns c =
-    let a = c .before .before .before .before .before .before .before .before .before .args in
-    let m = memory (a .m) (a .store .now) (a .lengths .now) in
+    let a = c .before .before .before .before .before .before .before .before .before .before .args in
+    let m = memory (a .capacities .now) (a .store .now) (a .lengths .now) in
     rw (
       c .turned-down .ensures,
       no-memory m (a .at) (a .budget) (zipped (a .kinds .now) (a .operands .now))
@@ -62,12 +63,10 @@ enum-told c = search needs
 
 run-usable-requires : tie.Need-run-usable-requires
 run-usable-requires c κs =
-    let a = c .before .before .before .before .before .before .before .before .before .before .before .before .before .args in
+    let a = c .before .before .before .before .before .before .before .before .before .before .before .before .before .before .args in
     let fine = good (c .before .before .before .before .before) in
-    let limits = memory-limits (a .m .capacity) (a .store .now) (a .lengths .now) (lent-good (a .m) (a .store .now) (a .lengths .now)
-    fine) in
-    let count = lent-count (a .m) (a .store .now) (a .lengths .now) fine in
-    (fine, all-usable (a .m .registers) (a .kinds .now) (a .operands .now) (nothing (c .before .before)) (omega (arith, limits .0, count)))
+    let few = memory-sized (a .capacities .now) (a .store .now) (a .lengths .now) fine .registers in
+    (fine, all-usable (length (a .capacities .now)) (a .kinds .now) (a .operands .now) (nothing (c .before .before)) (omega (arith, few)))
 
 same-length-3 : tie.Need-same-length-3
 same-length-3 c = search needs
@@ -77,8 +76,8 @@ same-length-4 c = search needs
 
 returns-2 : tie.Need-returns-2
 returns-2 c =
-    let a = c .before .before .before .before .before .before .before .before .before .before .before .before .before .args in
-    let m = memory (a .m) (a .store .now) (a .lengths .now) in
+    let a = c .before .before .before .before .before .before .before .before .before .before .before .before .before .before .args in
+    let m = memory (a .capacities .now) (a .store .now) (a .lengths .now) in
     let i = c .before .before .i in
     rw (
       c .turned-down2 .ensures,
@@ -96,8 +95,8 @@ same-length-6 c = search needs
 returns-3 : tie.Need-returns-3
 returns-3 c =
     let a = c .before .before .before .before .before .before .before .before .before .before .before .before .before .before .before
-    .before .before .before .args in
-    let m = memory (a .m) (a .store .now) (a .lengths .now) in
+    .before .before .before .before .args in
+    let m = memory (a .capacities .now) (a .store .now) (a .lengths .now) in
     c .before .before .before .before .run-usable .ensures
     ∙ sym (all-done m (a .at) (a .budget) (zipped (a .kinds .now) (a .operands .now)) (good (c .before .before .before .before .before
     .before .before .before .before .before)) (nothing (c .before .before .before .before .before .before .before)))

@@ -5,6 +5,7 @@ use native.Mathlib.Omega.{arith}
 use lib.ListN.{length, replicate}
 use lib.Seq.{length-take-le}
 use borrow.Author.Needs.{needs}
+use Rattle.theory.specs.RunTool.{tool-capacities}
 use Rattle.report.proofs.Lending.{done-fits}
 use Rattle.run_tool.proofs.main.Statement.{statement}
 use Rattle.run_tool.proofs.main.Tie as tie
@@ -54,7 +55,7 @@ fits c =
     let called = c .before .before .before .report in
     let n = c .n .given .0 .0 in
     let size : length (called .last .1 .1 .0) ≡ 147467 = called .kept .1 .1 .0 in
-    let short : n ≤ 147467 = done-fits (replicate 147467 0) _ _ n (sym (c .n .given .1) ∙ called .ensures .0) in
+    let short : n ≤ 147467 = done-fits (replicate 147467 0) tool-capacities _ _ n (sym (c .n .given .1) ∙ called .ensures .0) in
     omega arith
 
 array-share-prefix-out : tie.Need-array-share-prefix-out

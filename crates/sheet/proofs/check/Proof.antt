@@ -7,16 +7,13 @@ use Prim.Native.Nat.{ℕ, min}
 use native.Mathlib.Omega.{arith}
 use borrow.Author.Needs.{needs}
 use borrow.Author.Tests.{not-true, not-false}
-use lib.ListN.{drop}
-use Rattle.theory.specs.Text.{Bytes, split-lines}
 use Rattle.theory.specs.RunSheet.{names}
 use Rattle.theory.specs.TurnedDown.{names-fault}
 use Rattle.theory.specs.declared.Refusal.{Refusal}
-use Rattle.sheet.specs.declared.answers.Checked.the-variants as C
-use Rattle.sheet.specs.Answers.{line-at, after-line}
-use Rattle.sheet.specs.Lines.{rows-as, is-sheet-size}
+use Rattle.sheet.specs.Answers.{line-at}
+use Rattle.sheet.specs.Lines.{is-sheet-size}
 use Rattle.sheet.proofs.Along.{no-fault, some-fault}
-use Rattle.sheet.proofs.Answered.{sheet-unsized, sheet-names-refused, sheet-rows-refused, sheet-done}
+use Rattle.sheet.proofs.Answered.{sheet-unsized, sheet-names-refused, few-columns, sheet-rows-refused, sheet-done}
 use Rattle.sheet.proofs.check.Statement.{statement}
 use Rattle.sheet.proofs.check.Tie as tie
 
@@ -31,7 +28,7 @@ returns c =
     let a : _ = c .before .before .before .before .args in
     let i : _ = c .before .before .is-sized in
     let unsized : _ = sym (i .ensures) ∙ not-true (i .result) (c .before .if1 .taken) in
-    c .refused .ensures ∙ sheet-unsized (a .sheet .now) (a .capacity) (min (a .variables) 32) unsized
+    c .refused .ensures ∙ sheet-unsized (a .sheet .now) (min (a .variables) 32) (a .capacities) unsized
 
 read-names-requires : tie.Need-read-names-requires
 read-names-requires c κs = search needs
@@ -40,6 +37,9 @@ read-names-requires c κs = search needs
 
 abbrev sheet : tie.After-read-names → List ℕ
 sheet c = c .before .before .before .before .args .sheet .now
+
+abbrev capacities : tie.After-read-names → List ℕ
+capacities c = c .before .before .before .before .args .capacities
 
 abbrev K : tie.After-read-names → ℕ
 K c = min (c .before .before .before .before .args .variables) 32
@@ -56,10 +56,7 @@ first-fault c = names-fault (K c) (names (line-at (sheet c) 0))
 
 passed : (c : tie.After-enum-told) → first-fault (c .before .before) ≡ none
 unfolding first-fault
-passed c = no-fault (first-fault (c .before .before)) (sym (c .enum-told .given .1) ∙ c .before .before .read-names .ensures .judged)
-
-rest : tie.After-read-names → List Bytes
-rest c = split-lines (drop (after-line (sheet c) 0) (sheet c))
+passed c = no-fault (first-fault (c .before .before)) (c .enum-told .given .1) (c .before .before .read-names .ensures .judged)
 
 enum-told : tie.Need-enum-told
 enum-told c = search needs
@@ -75,12 +72,17 @@ unfolding first-fault
 returns-2 c =
     let l : _ = c .before .before .before .before in
     let f : _ = c .before .before .found .given in
-    let faulty : first-fault l ≡ some (f .0 .0) = some-fault (first-fault l) (f .0 .0) (sym (f .1) ∙ l .read-names .ensures .judged) in
-    let capacity : ℕ = l .before .before .before .before .args .capacity in
-    c .refused2 .ensures ∙ sheet-names-refused (sheet l) capacity (K l) (sized l) (f .0 .0) faulty
+    let faulty : first-fault l ≡ some (f .0 .0) = some-fault (first-fault l) (f .0 .0) (f .1) (l .read-names .ensures .judged) in
+    c .refused2 .ensures ∙ sheet-names-refused (sheet l) (K l) (capacities l) (sized l) (f .0 .0) faulty
 
 rows-requires : tie.Need-rows-requires
-rows-requires c κs = omega (arith, c .before .before .read-names .ensures .next-line)
+unfolding first-fault
+rows-requires c κs =
+    let e : _ = c .before in
+    let l : _ = e .before .before in
+    let h : _ = l .read-names .ensures in
+    let few : _ = few-columns (sheet l) (K l) (capacities l) (sized l) (passed e) (omega arith) _ _ (h .counted) (h .named) in
+    (few, omega (arith, h .next-line))
 
 enum-known-r : tie.Need-enum-known-r
 enum-known-r c = search needs
@@ -92,30 +94,26 @@ enum-known-count : tie.Need-enum-known-count
 enum-known-count c = search needs
 
 returns-3 : tie.Need-returns-3
-unfolding first-fault rest
+unfolding first-fault
 returns-3 c =
     let w : _ = c .before .before .before .before in
-    let e : _ = w .before in
+    let e : _ = w .before .before in
     let l : _ = e .before .before in
     let h : _ = l .read-names .ensures in
-    let count : ℕ = l .read-names .result .count in
     let r : _ = c .before .before .r .given in
-    let capacity : ℕ = l .before .before .before .before .args .capacity in
-    let faulty : C.Refused (r .0 .0) ≡ rows-as capacity count (rest l) = rw (h .next-line) at (sym (r .1) ∙ w .rows .ensures) in
-    c .refused3 .ensures ∙ sheet-rows-refused (sheet l) capacity (K l) (sized l) (passed e) count (r .0 .0) (h .counted) faulty
+    let answered : _ = sheet-rows-refused (sheet l) (K l) (capacities l) (sized l) (passed e) (omega arith) _ _ (h .counted) (h .named) in
+    c .refused3 .ensures ∙ answered _ _ (h .next-line) (w .rows .ensures) (r .0 .0) (r .1)
 
 returns-4 : tie.Need-returns-4
-unfolding first-fault rest
+unfolding first-fault
 returns-4 c =
-    let w : _ = c .before .before .before .before in
-    let e : _ = w .before in
+    let w : _ = c .before .before .before in
+    let e : _ = w .before .before in
     let l : _ = e .before .before in
     let h : _ = l .read-names .ensures in
-    let count : ℕ = l .read-names .result .count in
-    let n : _ = c .before .before .count .given in
-    let capacity : ℕ = l .before .before .before .before .args .capacity in
-    let fine : C.Accepted (n .0 .0) ≡ rows-as capacity count (rest l) = rw (h .next-line) at (sym (n .1) ∙ w .rows .ensures) in
-    sheet-done (sheet l) capacity (K l) (sized l) (passed e) count (n .0 .0) _ (omega arith) (h .counted) (h .named) fine
+    let n : _ = c .before .count .given in
+    let answered : _ = sheet-done (sheet l) (K l) (capacities l) (sized l) (passed e) (omega arith) _ _ (h .counted) (h .named) in
+    answered _ _ (h .next-line) (w .rows .ensures) (n .0 .0) (n .1)
 
 pub check-spec : {M : Type 1} → statement M
 check-spec =

@@ -1,17 +1,19 @@
 -- `scan` meets its contract: the part that it reads is the line, and the line is judged as the definition judges its values.
 use mathlib.Core.Path.{_≡_, ap, _∙_}
 use mathlib.Core.List.{List}
-use Prim.Native.Nat.{ℕ, _+_, _≤_, min}
+use mathlib.Core.Option.{Option}
+use Prim.Native.Nat.{ℕ, _≤_, _<_}
 use native.Mathlib.Omega.{arith}
-use borrow.Author.Needs.{needs}
-use lib.ListN.{length}
+use borrow.Author.Needs.{needs, elem-fits}
+use mir.Syntax.{w32}
+use lib.ListN.{length, take, getD}
+use lib.Seq.{length-take-le}
 use Rattle.theory.specs.RunSheet.{values}
 use Rattle.fields.specs.declared.Line.{Line}
 use Rattle.fields.specs.Fields.{most, line-of}
 use Rattle.sheet.specs.Answers.{line-at}
-use Rattle.sheet.specs.Lines.{line-fault}
 use Rattle.sheet.proofs.Splits.{part-end, part-line, part-next}
-use Rattle.sheet.proofs.Judged.{numbers-values, values-judged}
+use Rattle.sheet.proofs.Judged.{numbers-values, line-judged}
 use Rattle.sheet.proofs.scan.Statement.{statement}
 use Rattle.sheet.proofs.scan.Tie as tie
 
@@ -36,16 +38,16 @@ within c =
 part-read-line-end : tie.Need-part-read-line-end
 part-read-line-end c = omega (arith, within c)
 
-add-read-line : tie.Need-add-read-line
-add-read-line c = search needs
-
 read-line-requires : tie.Need-read-line-requires
 read-line-requires c κs = search needs
 
+all-within-requires : tie.Need-all-within-requires
+all-within-requires c κs = search needs
+
 add-least : tie.Need-add-least
 add-least c =
-    let s : _ = c .before .before .before .before .before .before in
-    omega (arith, within (c .before .before .before), s .good .0 .1)
+    let s : _ = c .before .before .before .before .before .before .before in
+    omega (arith, within (c .before .before .before .before), s .good .0 .1)
 
 least-requires-2 : tie.Need-least-requires-2
 least-requires-2 c κs = search needs
@@ -53,23 +55,34 @@ least-requires-2 c κs = search needs
 line-fault-requires : tie.Need-line-fault-requires
 line-fault-requires c κs = search needs
 
+-- A capacity has 32 bits
+bounded : (s : tie.Start) → (i : ℕ) → getD (s .args .capacities) i 0 < most
+bounded s i =
+    let g : _ = s .good .1 .1 .1 .0 in
+    elem-fits w32 w32 (s .args .capacities) (g .0) i (g .1 .1) tt .fits
+
 returns : tie.Need-returns
 returns c =
-    let u : _ = c .before .before .before in
+    let u : _ = c .before .before .before .before in
     let e : _ = u .before .before in
-    let a : _ = e .before .before .before .args in
+    let b : _ = e .before .before .before in
+    let a : _ = b .args in
     let s : List ℕ = a .sheet .now in
+    let ns : List ℕ = take (a .count) (a .columns) in
+    let o : Option (List ℕ) = values (line-at s (a .at)) in
     let from : ℕ = e .before .least .result in
     let end : ℕ = e .find .result in
     let part : _ = part-line s (a .at) from end (e .before .least .ensures) (e .find .ensures) in
     let next : _ = part-next s (a .at) from end (e .before .least .ensures) (e .find .ensures) in
-    let exact : min (a .capacity + 1) most ≡ a .capacity + 1 = omega arith in
-    let read : u .read-line .result ≡ line-of (a .capacity + 1) (values (line-at s (a .at))) =
-    rw (part, numbers-values (line-at s (a .at)), exact) at (u .read-line .ensures) in
+    let read : u .read-line .result ≡ line-of most o = rw (part, numbers-values (line-at s (a .at))) at (u .read-line .ensures) in
+    let columns : length (a .columns) ≡ 32 = b .good .1 .0 .1 .0 .1 in
+    let counted : length ns ≡ a .count = length-take-le (a .count) (a .columns) (omega (arith, b .pre)) in
+    let judged : _ =
+    line-judged (a .capacities) ns (bounded b) (a .n) o _ (a .count) _ read counted (b .pre) (c .before .before .all-within .ensures) in
     record {
       numbers-read = ap (λ (l : Line). l .numbers) read;
       next-line = c .before .least2 .ensures ∙ next;
-      judged = rw read at (c .line-fault .ensures) ∙ values-judged (a .capacity) (a .count) (a .n) (values (line-at s (a .at)));
+      judged = c .line-fault .ensures ∙ judged;
     }
 
 pub scan-spec : {M : Type 1} → statement M
@@ -81,8 +94,8 @@ scan-spec =
     sub-read-line
     part-read-line-start
     part-read-line-end
-    add-read-line
     read-line-requires
+    all-within-requires
     add-least
     least-requires-2
     line-fault-requires

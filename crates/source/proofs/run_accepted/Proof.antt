@@ -19,6 +19,9 @@ use Rattle.source.proofs.run_accepted.Tie as tie
 sized-values : (s : tie.Start) → length (s .args .state .values) ≡ 32
 sized-values s = search needs
 
+sized-capacities : (s : tie.Start) → length (s .args .state .capacities) ≡ 32
+sized-capacities s = search needs
+
 sized-passes : (s : tie.Start) → length (s .args .state .passes) ≡ 16
 sized-passes s = search needs
 
@@ -96,12 +99,15 @@ slice-aggregate-walk-2 c = search needs
 slice-aggregate-walk-3 : tie.Need-slice-aggregate-walk-3
 slice-aggregate-walk-3 c = search needs
 
+slice-aggregate-walk-5 : tie.Need-slice-aggregate-walk-5
+slice-aggregate-walk-5 c = search needs
+
 slice-aggregate-walk-4 : tie.Need-slice-aggregate-walk-4
 slice-aggregate-walk-4 c = search needs
 
 walk-requires : tie.Need-walk-requires
 walk-requires c κs =
-    let e : tie.Else1 = c .before .before .before .before .before .before .before .before in
+    let e : tie.Else1 = c .before .before .before .before .before .before .before .before .before .before in
     let s : tie.Start = start (e .before) in
     let call : _ = e .before .is-source in
     let good : _ = good-line _ (s .args .state) (sym (call .ensures) ∙ not-false (call .result) (e .if1 .left)) in
@@ -110,6 +116,7 @@ walk-requires c κs =
       lines-are = s .pre .lines-are;
       low = good .0;
       high = good .1;
+      capacities-are = sized-capacities s;
       values-are = sized-values s;
       passes-are = sized-passes s;
     }
@@ -117,7 +124,7 @@ walk-requires c κs =
 -- Once the steps are taken: they are those that budget and count allow
 module _ (c : tie.After-walk) where
   abbrev judged : tie.Else1
-  judged = c .before .before .before .before .before .before .before .before .before
+  judged = c .before .before .before .before .before .before .before .before .before .before .before
 
   abbrev s : tie.Start
   s = start (judged .before)
@@ -128,10 +135,10 @@ module _ (c : tie.After-walk) where
   abbrev passes : List ℕ
   passes = c .walk .last .1 .1 .1 .1 .1 .1 .1 .1 .0
 
-  ran : run-at (s .args .list .now) (s .args .state .capacity) (s .args .state .line) (s .args .state .values) (s .args .state .passes)
+  ran : run-at (s .args .list .now) (s .args .state .capacities) (s .args .state .line) (s .args .state .values) (s .args .state .passes)
       (allows (s .args .budget) (s .args .state .steps))
       ≡ outcome-of (c .walk .result) values passes
-  ran = rw (c .before .before .before .before .before .least .ensures) at (c .walk .ensures)
+  ran = rw (c .before .before .before .before .before .before .least .ensures) at (c .walk .ensures)
 
 add-steps : tie.Need-add-steps
 add-steps c =
@@ -164,6 +171,7 @@ run-accepted-spec =
     slice-aggregate-walk-2
     slice-aggregate-walk-3
     slice-aggregate-walk-4
+    slice-aggregate-walk-5
     walk-requires
     add-steps
     returns-2)

@@ -14,18 +14,20 @@ is-sized-requires c κs = search needs
 
 returns : tie.Need-returns
 returns c =
-    let a = c .before .before .before .before .args in
-    sym (not-memory (memory (a .m) (a .store .now) (a .lengths .now)) (sym (c .before .is-sized .ensures) ∙ not-true _ (c .if1 .taken)))
+    let a = c .before .before .before .before .before .args in
+    sym (not-memory (memory (a .capacities .now) (a .store .now) (a .lengths .now))
+    (sym (c .before .is-sized .ensures) ∙ not-true _ (c .if1 .taken)))
 
 all-laid-requires : tie.Need-all-laid-requires
 all-laid-requires c κs =
-    let a = c .before .before .before .before .args in
-    are-sized (memory (a .m) (a .store .now) (a .lengths .now)) (sym (c .before .is-sized .ensures) ∙ not-false _ (c .if1 .left))
+    let a = c .before .before .before .before .before .args in
+    are-sized (memory (a .capacities .now) (a .store .now) (a .lengths .now))
+    (sym (c .before .is-sized .ensures) ∙ not-false _ (c .if1 .left))
 
 returns-2 : tie.Need-returns-2
 returns-2 c =
-    let a = c .before .before .before .before .before .args in
-    let m : Memory = memory (a .m) (a .store .now) (a .lengths .now) in
+    let a = c .before .before .before .before .before .before .args in
+    let m : Memory = memory (a .capacities .now) (a .store .now) (a .lengths .now) in
     let sized : is-sized m ≡ true = sym (c .before .before .is-sized .ensures) ∙ not-false _ (c .before .if1 .left) in
     c .all-laid .ensures ∙ sym (by-places m sized)
 

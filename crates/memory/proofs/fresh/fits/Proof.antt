@@ -12,15 +12,15 @@ is-sized-requires c κs = search needs
 
 returns : tie.Need-returns
 returns c =
-    let a = c .before .before .before .before .before .args in
-    sym (not-sized (memory (a .m) (a .store .now) (a .lengths .now)) (a .values .now)
+    let a = c .before .before .before .before .before .before .args in
+    sym (not-sized (memory (a .capacities .now) (a .store .now) (a .lengths .now)) (a .values .now)
     (sym (c .before .is-sized .ensures) ∙ not-true _ (c .if1 .taken)))
 
 returns-2 : tie.Need-returns-2
 returns-2 c =
     let a = c .before .before .before .before .before .before .before .args in
-    let sized = sym (c .before .before .before .is-sized .ensures) ∙ not-false _ (c .before .before .if1 .left) in
-    sym (too-many (memory (a .m) (a .store .now) (a .lengths .now)) (a .values .now) sized (c .if2 .taken))
+    let sized = sym (c .before .before .is-sized .ensures) ∙ not-false _ (c .before .if1 .left) in
+    sym (too-many (memory (a .capacities .now) (a .store .now) (a .lengths .now)) (a .values .now) sized (c .if2 .taken))
 
 all-within-requires : tie.Need-all-within-requires
 all-within-requires c κs = search needs
@@ -28,8 +28,9 @@ all-within-requires c κs = search needs
 returns-3 : tie.Need-returns-3
 returns-3 c =
     let a = c .before .before .before .before .before .before .before .before .args in
-    let sized = sym (c .before .before .before .before .is-sized .ensures) ∙ not-false _ (c .before .before .before .if1 .left) in
-    c .all-within .ensures ∙ sym (by-values (memory (a .m) (a .store .now) (a .lengths .now)) (a .values .now) sized (search needs))
+    let sized = sym (c .before .before .before .is-sized .ensures) ∙ not-false _ (c .before .before .if1 .left) in
+    c .all-within .ensures
+    ∙ sym (by-values (memory (a .capacities .now) (a .store .now) (a .lengths .now)) (a .values .now) sized (search needs))
 
 pub fits-spec : {M : Type 1} → statement M
 fits-spec = tie.close (tie.spec is-sized-requires returns returns-2 all-within-requires returns-3)

@@ -6,27 +6,30 @@ use lib.ListN.{length}
 use Rattle.rings.specs.declared.effect.Step.{Step}
 use Rattle.rings.specs.Steps.{Performed}
 use Rattle.rings.proofs.Rings.{ring-sized}
-use Rattle.rings.proofs.Running.{Running, memory-limits, running-start, running-over, running-full, running-step, at-instruction}
+use Rattle.rings.proofs.Running.{Running, memory-sized, running-start, running-over, running-full, running-step, at-instruction}
 use borrow.Author.Needs.{needs}
 use Rattle.rings.proofs.runs.run_rings.Statement.{statement}
 use Rattle.rings.proofs.runs.run_rings.Tie as tie
 
 abbrev Inv-loop : tie.InvT-loop
-Inv-loop store₀ lengths₀ starts₀ capacity kinds operands from steps budget last allowed here₀ k₀ store lengths starts here k =
-    Running capacity store₀ lengths₀ kinds operands from steps budget allowed store lengths starts here k × (length starts ≡ length starts₀)
+Inv-loop store₀ lengths₀ starts₀ offsets capacities kinds operands from steps budget last allowed here₀ k₀ store lengths starts here k =
+    Running capacities store₀ lengths₀ kinds operands from steps budget allowed store lengths starts here k × (length starts ≡ length
+    starts₀)
 
 abbrev μ-loop : tie.MeasureT-loop
-μ-loop store₀ lengths₀ starts₀ capacity kinds operands from steps budget last allowed here₀ k₀ store lengths starts here k = allowed - k
+μ-loop store₀ lengths₀ starts₀ offsets capacities kinds operands from steps budget last allowed here₀ k₀ store lengths starts here k =
+    allowed - k
 
 -- a run that goes on stands at an instruction, and has a step left
 going : (c : tie.Then1 Inv-loop μ-loop)
     → let l = c .before .before .loop in
-    (1000000 < l .here) × (l .here ≤ 1000000 + length (c .before .before .before .before .before .before .before .before .before .args
+    (1000000 < l .here) × (l .here ≤ 1000000 + length (c .before .before .before .before .before .before .before .before .before .before
+    .before .args
     .kinds .now)) × (l .k < c .before .before .before .allowance .result)
 going c = at-instruction _ _ _ _ (sym (c .before .goes-on .ensures) ∙ c .if1 .taken)
 
 inside : (c : tie.Then1 Inv-loop μ-loop) → c .before .before .loop .here - 1000000 - 1 < length (c .before .before .before .before
-    .before .before .before .before .before .args .kinds .now)
+    .before .before .before .before .before .before .before .args .kinds .now)
 inside c = omega (arith, going c .0, going c .1)
 
 add-last : tie.Need-add-last Inv-loop μ-loop
@@ -37,9 +40,10 @@ allowance-requires c κs = search needs
 
 loop-holds : tie.Need-loop-holds Inv-loop μ-loop
 loop-holds c =
-    let a = c .before .before .before .before .before .before .args in
-    let p = c .before .before .before .before .before .before .pre in (
-      running-start (a .capacity) (a .store .now) (a .lengths .now) (a .kinds .now) (a .operands .now) (a .from) (a .steps) (a .budget)
+    let a = c .before .before .before .before .before .before .before .before .args in
+    let p = c .before .before .before .before .before .before .before .before .pre in (
+      running-start (a .capacities .now) (a .store .now) (a .lengths .now) (a .kinds .now) (a .operands .now) (a .from) (a .steps) (a
+          .budget)
           (c .allowance .result) (a .starts .now) (p .0) (p .1) (omega (arith, p .3, p .2 .count)),
       refl,
     )
@@ -64,29 +68,33 @@ shared-slice-read-perform-2 c = omega (
   arith,
   inside (c .before .before .before .before .before),
   c .before .before .before .before
-      .before .before .before .before .before .before .before .before .before .before .pre .2 .paired,
+      .before .before .before .before .before .before .before .before .before .before .before .before .pre .2 .paired,
 )
 
 cast-perform : tie.Need-cast-perform Inv-loop μ-loop
 cast-perform c = omega (
   arith,
   c .before .before .before .before .before .before .before .before .before .before .before .before
-      .before .before .pre .2 .each (c .before .before .before .before .before .before .before .loop .here - 1000000 - 1) (inside (c
+      .before .before .before .before .pre .2 .each (c .before .before .before .before .before .before .before .loop .here - 1000000 - 1)
+      (inside (c
       .before .before .before .before .before)) .small,
 )
 
 perform-requires : tie.Need-perform-requires Inv-loop μ-loop
 perform-requires c κs =
-    let a = c .before .before .before .before .before .before .before .before .before .before .before .before .before .before .args in
-    let p = c .before .before .before .before .before .before .before .before .before .before .before .before .before .before .pre in
+    let a = c .before .before .before .before .before .before .before .before .before .before .before .before .before .before .before
+    .before .args in
+    let p = c .before .before .before .before .before .before .before .before .before .before .before .before .before .before .before
+    .before .pre in
     let r = c .before .before .before .before .before .before .before .loop .inv .0 in
-    let limits = memory-limits (a .capacity) (a .store .now) (a .lengths .now) (p .0) in (
-      ring-sized (r .held) (omega (arith, limits .0, r .counts)) (limits .2),
+    let sized = memory-sized (a .capacities .now) (a .store .now) (a .lengths .now) (p .0) in (
+      ring-sized (r .held) (sized .registers) (sized .symbols),
       (r .registers, r .held),
-      rw (r .counts) (p .2 .each (c .before .before .before .before .before .before .before .loop .here - 1000000 - 1) (inside (c
-          .before .before .before .before .before))),
+      p .2 .each (c .before .before .before .before .before .before .before .loop .here - 1000000 - 1) (inside (c
+          .before .before .before .before .before)),
       omega (arith, going (c .before .before .before .before .before) .0),
       omega (arith, going (c .before .before .before .before .before) .1, p .2 .count),
+      p .4,
     )
 
 enum-known-there : tie.Need-enum-known-there Inv-loop μ-loop
@@ -110,7 +118,7 @@ same-length-3 c = search needs
 returns : tie.Need-returns Inv-loop μ-loop
 returns c =
     let a = c .before .before .before .before .before .before .before .before .before .before .before .before .before .before .before
-    .before .before .before .before .before .before .before .before .before .args in
+    .before .before .before .before .before .before .before .before .before .before .before .args in
     let l = c .before .before .before .before .before .before .before .before .before .before .before .before .before .before .before
     .before .before .loop in
     let r = l .inv .0 in
@@ -118,14 +126,15 @@ returns c =
     let g = going (c .before .before .before .before .before .before .before .before .before .before .before .before .before .before
     .before) in
     rw (c .stopped .ensures)
-    (running-full (a .capacity) (a .store .now) (a .lengths .now) (a .kinds .now) (a .operands .now) (a .from) (a .steps) (a .budget)
+    (running-full (a .capacities .now) (a .store .now) (a .lengths .now) (a .kinds .now) (a .operands .now) (a .from) (a .steps) (a .budget)
     (c .before .before .before .before .before .before .before .before .before .before .before .before .before .before .before .before
     .before .before .allowance .result) r (c .before .before .before .before .before .before .before .before .before .before .before
-    .before .before .before .before .before .before .before .before .before .before .before .before .before .pre .2) (g .0) (g .1) (c
+    .before .before .before .before .before .before .before .before .before .before .before .before .before .before .before .pre .2) (g
+    .0) (g .1) (c
     .before .before .before .before .before .before .before .before .before .before .before .before .before .before .before .before
     .before .before .allowance .ensures) (g .2)
     (λ i k o. subst
-    (λ (x : Step). Performed (a .capacity) (r .registers) (l .here) i x (q .last .0) (q .last .1 .0) (q .last .1 .1 .0))
+    (λ (x : Step). Performed (a .capacities .now) (r .registers) (l .here) i x (q .last .0) (q .last .1 .0) (q .last .1 .1 .0))
     (c .before .enum-told .given .1)
     (q .ensures (r .registers) i k o (r .held))))
 
@@ -146,22 +155,23 @@ loop-less c = omega (
 loop-again : tie.Need-loop-again Inv-loop μ-loop
 loop-again c =
     let a = c .before .before .before .before .before .before .before .before .before .before .before .before .before .before .before
-    .before .before .before .before .before .before .before .before .before .args in
+    .before .before .before .before .before .before .before .before .before .before .before .args in
     let u = c .before .before .before .before .before .before .before .before .before .before .before .before .before .before .before
-    .before .before .before .before .before .before .before .before .before .pre .2 in
+    .before .before .before .before .before .before .before .before .before .before .before .pre .2 in
     let l = c .before .before .before .before .before .before .before .before .before .before .before .before .before .before .before
     .before .before .loop in
     let r = l .inv .0 in
     let q = c .before .before .before .before .before .before .before .before .before .perform in
     let g = going (c .before .before .before .before .before .before .before .before .before .before .before .before .before .before
     .before) in (
-      running-step (a .capacity) (a .store .now) (a .lengths .now) (a .kinds .now) (a .operands .now) (a .from) (a .steps) (a .budget)
+      running-step (a .capacities .now) (a .store .now) (a .lengths .now) (a .kinds .now) (a .operands .now) (a .from) (a .steps) (a
+          .budget)
           (c .before .before .before .before .before .before .before .before .before .before .before .before .before .before .before
           .before .before .before .allowance .result) r u (g .0) (g .1) (c .before .before .before .before .before .before .before
           .before .before .before .before .before .before .before .before .before .before .before .allowance .ensures) (g .2) (c
           .before .there .given .0 .0)
           (λ i k o. subst
-          (λ (x : Step). Performed (a .capacity) (r .registers) (l .here) i x (q .last .0) (q .last .1 .0) (q .last .1 .1 .0))
+          (λ (x : Step). Performed (a .capacities .now) (r .registers) (l .here) i x (q .last .0) (q .last .1 .0) (q .last .1 .1 .0))
           (c .before .there .given .1)
           (q .ensures (r .registers) i k o (r .held)))
           (u .count) (q .kept .0) (q .kept .1 .0),
@@ -185,11 +195,12 @@ same-length-6 c = search needs
 
 returns-2 : tie.Need-returns-2 Inv-loop μ-loop
 returns-2 c =
-    let a = c .before .before .before .before .before .before .before .before .before .before .before .args in
+    let a = c .before .before .before .before .before .before .before .before .before .before .before .before .before .args in
     rw (c .stopped2 .ensures, c .before .end-at .ensures)
-    (running-over (a .capacity) (a .store .now) (a .lengths .now) (a .kinds .now) (a .operands .now) (a .from) (a .steps) (a .budget)
+    (running-over (a .capacities .now) (a .store .now) (a .lengths .now) (a .kinds .now) (a .operands .now) (a .from) (a .steps) (a .budget)
     (c .before .before .before .before .before .allowance .result) (c .before .before .before .before .loop .inv .0) (c .before .before
-    .before .before .before .before .before .before .before .before .before .pre .2) (c .before .before .before .before .before
+    .before .before .before .before .before .before .before .before .before .before .before .pre .2) (c .before .before .before .before
+    .before
     .allowance .ensures) (sym (c .before .before .before .goes-on .ensures) ∙ c .before .before .if1 .left))
 
 pub run-rings-spec : {M : Type 1} → statement M

@@ -5,17 +5,17 @@ use native.Mathlib.Omega.{arith}
 use borrow.Author.Needs.{needs}
 use lib.ListN.{length, getD}
 use Rattle.source.specs.Lines.{Ready}
-use Rattle.source.proofs.Bounds.{few, numbers-in, target-in, entry-in, first-in, second-in, pair-in}
+use Rattle.source.proofs.Bounds.{few, numbers-in, target-in, entry-in, first-in, capacity-in, second-in, pair-in}
 use Rattle.source.proofs.Stepping.{stores, leads}
 use Rattle.source.proofs.steps.step.Statement.{statement}
 use Rattle.source.proofs.steps.step.Tie as tie
 
 abbrev start : tie.After-slice-known2 → tie.Start
-start c = c .before .before .before .before .before
+start c = c .before .before .before .before .before .before
 
 ready : (c : tie.After-slice-known2)
-    → Ready (start c .args .list .now) (start c .args .targets .now) (start c .args .entries .now) (start c .args .line)
-    (start c .args .values .now) (start c .args .passes .now)
+    → Ready (start c .args .list .now) (start c .args .targets .now) (start c .args .entries .now) (start c .args .capacities .now)
+    (start c .args .line) (start c .args .values .now) (start c .args .passes .now)
 ready c = start c .pre
 
 -- From where the kind has been tested
@@ -62,23 +62,29 @@ mul-held c = omega (arith, first-in (ready (c .before .before)))
 slice-read-held : tie.Need-slice-read-held
 slice-read-held c = first-in (ready (c .before .before .before)) .0
 
+mul-j : tie.Need-mul-j
+mul-j c = omega (arith, few (ready (c .before .before .before .before)))
+
+add-j : tie.Need-add-j
+add-j c = omega (arith, few (ready (c .before .before .before .before)))
+
+shared-slice-read-j : tie.Need-shared-slice-read-j
+shared-slice-read-j c = omega (arith, numbers-in (ready (c .before .before .before .before .before)))
+
+cast-j : tie.Need-cast-j
+cast-j c = omega (arith, second-in (ready (c .before .before .before .before .before)))
+
 mul-source : tie.Need-mul-source
-mul-source c = omega (arith, few (ready (c .before .before .before .before)))
-
-add-source : tie.Need-add-source
-add-source c = omega (arith, few (ready (c .before .before .before .before)))
-
-shared-slice-read-source : tie.Need-shared-slice-read-source
-shared-slice-read-source c = omega (arith, numbers-in (ready (c .before .before .before .before .before)))
-
-cast-source : tie.Need-cast-source
-cast-source c = omega (arith, second-in (ready (c .before .before .before .before .before)))
-
-mul-source-2 : tie.Need-mul-source-2
-mul-source-2 c = omega (arith, second-in (ready (c .before .before .before .before .before)))
+mul-source c = omega (arith, second-in (ready (c .before .before .before .before .before)))
 
 slice-read-source : tie.Need-slice-read-source
 slice-read-source c = second-in (ready (c .before .before .before .before .before .before)) .0
+
+mul-store : tie.Need-mul-store
+mul-store c = omega (arith, first-in (ready (c .before .before .before .before .before .before)))
+
+shared-slice-read-store : tie.Need-shared-slice-read-store
+shared-slice-read-store c = capacity-in (ready (c .before .before .before .before .before .before .before))
 
 store-requires : tie.Need-store-requires
 store-requires c κs = search needs
@@ -87,10 +93,10 @@ enum-known-v : tie.Need-enum-known-v
 enum-known-v c = c .match .keys1
 
 mul-values : tie.Need-mul-values
-mul-values c = omega (arith, first-in (ready (c .before .before .before .before .before .before .before .before .before .before)))
+mul-values c = omega (arith, first-in (ready (c .before .before .before .before .before .before .before .before .before .before .before)))
 
 slice-write-values : tie.Need-slice-write-values
-slice-write-values c = first-in (ready (c .before .before .before .before .before .before .before .before .before .before)) .0
+slice-write-values c = first-in (ready (c .before .before .before .before .before .before .before .before .before .before .before)) .0
 
 enum-told : tie.Need-enum-told
 enum-told c = c .match .keys2
@@ -101,20 +107,20 @@ same-length c = search needs
 returns : tie.Need-returns
 returns c =
     let call : tie.After-store = c .before .before .before in
-    let t : tie.Then1 = call .before .before .before in
+    let t : tie.Then1 = call .before .before .before .before in
     let s : tie.Start = at-plain t in
     let r : _ = ready (t .before .before .before .before) in
-    let made : _ = stores _ (r .filled .holds) (s .args .capacity) _ (r .low) (r .high) (s .args .values .now) (s .args .passes .now)
+    let made : _ = stores _ (r .filled .holds) (s .args .capacities .now) _ (r .low) (r .high) (s .args .values .now) (s .args .passes .now)
     (t .if1 .taken) (first-in r .0) in
     rw (sym (call .store .ensures) ∙ c .before .v .given .1) at made
 
 returns-2 : tie.Need-returns-2
 returns-2 c =
     let call : tie.After-store = c .before .before in
-    let t : tie.Then1 = call .before .before .before in
+    let t : tie.Then1 = call .before .before .before .before in
     let s : tie.Start = at-plain t in
     let r : _ = ready (t .before .before .before .before) in
-    let made : _ = stores _ (r .filled .holds) (s .args .capacity) _ (r .low) (r .high) (s .args .values .now) (s .args .passes .now)
+    let made : _ = stores _ (r .filled .holds) (s .args .capacities .now) _ (r .low) (r .high) (s .args .values .now) (s .args .passes .now)
     (t .if1 .taken) (first-in r .0) in
     rw (sym (call .store .ensures) ∙ c .enum-told .given .1) at made
 
@@ -125,7 +131,7 @@ shared-slice-read-target : tie.Need-shared-slice-read-target
 shared-slice-read-target c = target-in (ready (c .before .before .before .before .before))
 
 cast-target : tie.Need-cast-target
-cast-target c = omega (arith, c .shared-slice-known7 .given (start (c .before .before .before .before .before) .args .line - 1))
+cast-target c = omega (arith, c .shared-slice-known9 .given (start (c .before .before .before .before .before) .args .line - 1))
 
 shared-slice-read-d : tie.Need-shared-slice-read-d
 shared-slice-read-d c = entry-in (ready (c .before .before .before .before .before .before))
@@ -156,7 +162,7 @@ returns-3 c =
     let e : tie.Else1 = c .before .before .before .before in
     let s : tie.Start = at-pair e in
     let r : _ = ready (e .before .before .before .before) in
-    let made : _ = leads _ (r .filled .holds) (s .args .capacity) _ (r .low) (r .high) (s .args .values .now) (s .args .passes .now)
+    let made : _ = leads _ (r .filled .holds) (s .args .capacities .now) _ (r .low) (r .high) (s .args .values .now) (s .args .passes .now)
     _ _ (r .filled) (e .if1 .left) (entry-at e .0) in
     rw (c .lead .ensures) made
 
@@ -174,12 +180,14 @@ step-spec =
     cast-i
     mul-held
     slice-read-held
+    mul-j
+    add-j
+    shared-slice-read-j
+    cast-j
     mul-source
-    add-source
-    shared-slice-read-source
-    cast-source
-    mul-source-2
     slice-read-source
+    mul-store
+    shared-slice-read-store
     store-requires
     enum-known-v
     mul-values

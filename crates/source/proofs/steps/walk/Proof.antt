@@ -12,15 +12,15 @@ use Rattle.source.proofs.steps.walk.Tie as tie
 use Rattle.theory.specs.ProgramText.{commands}
 
 abbrev Inv-loop : tie.InvT-loop
-Inv-loop list targets entries lines capacity from allowed values₀ passes₀ last line₀ taken₀ values passes line taken =
-    Going list capacity (run-at list capacity from values₀ passes₀ allowed) allowed taken line values passes
+Inv-loop list targets entries lines capacities from allowed values₀ passes₀ last line₀ taken₀ values passes line taken =
+    Going list capacities (run-at list capacities from values₀ passes₀ allowed) allowed taken line values passes
 
 abbrev μ-loop : tie.MeasureT-loop
-μ-loop list targets entries lines capacity from allowed values₀ passes₀ last line₀ taken₀ values passes line taken = allowed - taken
+μ-loop list targets entries lines capacities from allowed values₀ passes₀ last line₀ taken₀ values passes line taken = allowed - taken
 
 -- The function's start, and at the head of the loop
 abbrev entry : tie.After-slice-known2 Inv-loop μ-loop → tie.Start Inv-loop μ-loop
-entry c = c .before .before .before .before .before
+entry c = c .before .before .before .before .before .before
 
 abbrev start : tie.At-loop Inv-loop μ-loop → tie.Start Inv-loop μ-loop
 start c = entry (c .before)
@@ -50,7 +50,14 @@ step-requires : tie.Need-step-requires Inv-loop μ-loop
 step-requires c κs =
     let t : tie.In-loop Inv-loop μ-loop = c .before .before .before in
     let g : _ = t .before .loop .inv in
-    record { filled = start (t .before) .pre .filled; low = g .low; high = here t; values-are = g .values-are; passes-are = g .passes-are }
+    record {
+      filled = start (t .before) .pre .filled;
+      low = g .low;
+      high = here t;
+      capacities-are = start (t .before) .pre .capacities-are;
+      values-are = g .values-are;
+      passes-are = g .passes-are;
+    }
 
 enum-known-next : tie.Need-enum-known-next Inv-loop μ-loop
 enum-known-next c = c .match .keys1

@@ -1,19 +1,14 @@
--- `state_of` meets its contract. Each part that is copied is a part of the numbers, where there are 51.
+-- `state_of` meets its contract. Each part that is copied is a part of the numbers, where there are 82.
 use borrow.Author.Needs.{needs}
 use borrow.Author.Tests.{eq-eqb, ne-eqb}
 use lib.ListN.{length}
-use Rattle.states.specs.Numbers.{state-of, lent-state}
+use Rattle.states.specs.Numbers.{state-of, no-state, lent-state}
 use Rattle.states.proofs.numbers.state_of.Statement.{statement}
 use Rattle.states.proofs.numbers.state_of.Tie as tie
 
-fresh-requires : tie.Need-fresh-requires
-fresh-requires c κs = search needs
-
 returns : tie.Need-returns
-unfolding lent-state
-returns c =
-    let numbers = c .before .before .before .args .numbers .now in
-    rw (ne-eqb (length numbers) 51 (c .before .if1 .taken)) (c .fresh .ensures .state)
+unfolding lent-state no-state
+returns c = rw (ne-eqb (length (c .before .before .args .numbers .now)) 82 (c .if1 .taken))
 
 sub-copy : tie.Need-sub-copy
 sub-copy c = search needs
@@ -45,8 +40,20 @@ slice-aggregate-copy-2 c = search needs
 copy-requires-2 : tie.Need-copy-requires-2
 copy-requires-2 c κs = search needs
 
-shared-slice-read-capacity : tie.Need-shared-slice-read-capacity
-shared-slice-read-capacity c = search needs
+sub-copy-3 : tie.Need-sub-copy-3
+sub-copy-3 c = search needs
+
+part-copy-start-3 : tie.Need-part-copy-start-3
+part-copy-start-3 c = search needs
+
+part-copy-end-3 : tie.Need-part-copy-end-3
+part-copy-end-3 c = search needs
+
+slice-aggregate-copy-3 : tie.Need-slice-aggregate-copy-3
+slice-aggregate-copy-3 c = search needs
+
+copy-requires-3 : tie.Need-copy-requires-3
+copy-requires-3 c κs = search needs
 
 shared-slice-read-line : tie.Need-shared-slice-read-line
 shared-slice-read-line c = search needs
@@ -57,16 +64,17 @@ shared-slice-read-steps c = search needs
 returns-2 : tie.Need-returns-2
 unfolding lent-state state-of
 returns-2 c =
-    let at-passes : tie.After-copy2 = c .before .before .before .before in
-    let test : tie.Else1 = at-passes .before .before .before .before .before .before .before in
-    let is : _ = eq-eqb (length (test .before .before .args .numbers .now)) 51 (test .if1 .left) in
-    rw (is, at-passes .before .before .before .before .copy .ensures, at-passes .copy2 .ensures)
+    let third : tie.After-copy3 = c .before .before .before in
+    let second : tie.After-copy2 = third .before .before .before .before in
+    let first : tie.After-copy = second .before .before .before .before in
+    let test : tie.Else1 = first .before .before .before in
+    let is : _ = eq-eqb (length (test .before .before .args .numbers .now)) 82 (test .if1 .left) in
+    rw (is, first .copy .ensures, second .copy2 .ensures, third .copy3 .ensures)
 
 pub state-of-spec : {M : Type 1} → statement M
 state-of-spec =
     tie.close
     (tie.spec
-    fresh-requires
     returns
     sub-copy
     part-copy-start
@@ -78,7 +86,11 @@ state-of-spec =
     part-copy-end-2
     slice-aggregate-copy-2
     copy-requires-2
-    shared-slice-read-capacity
+    sub-copy-3
+    part-copy-start-3
+    part-copy-end-3
+    slice-aggregate-copy-3
+    copy-requires-3
     shared-slice-read-line
     shared-slice-read-steps
     returns-2)

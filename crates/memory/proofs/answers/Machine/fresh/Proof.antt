@@ -22,14 +22,14 @@ same-length-2 c = search needs
 
 returns : tie.Need-returns
 returns c =
-    let a = c .before .before .before .before .before .before .before .args in
-    lays-none (memory (a .m) (a .store .now) (a .lengths .now)) (a .values .now)
+    let a = c .before .before .before .before .before .before .before .before .args in
+    lays-none (memory (a .capacities .now) (a .store .now) (a .lengths .now)) (a .values .now)
     (sym (c .before .fits2 .ensures) ∙ not-true _ (c .if1 .taken))
 
 fill-requires : tie.Need-fill-requires
 fill-requires c κs =
-    let a = c .before .before .before .before .before .before .before .before .before .args in
-    let m : Memory = memory (a .m) (a .store .now) (a .lengths .now) in
+    let a = c .before .before .before .before .before .before .before .before .before .before .args in
+    let m : Memory = memory (a .capacities .now) (a .store .now) (a .lengths .now) in
     let holds : can-hold m (a .values .now) ≡ true
     = sym (c .before .before .before .fits2 .ensures) ∙ not-false _ (c .before .before .if1 .left) in
     (are-sized m (holds-sized m (a .values .now) holds), holds-each m (a .values .now) holds)
@@ -43,12 +43,12 @@ same-length-4 c = search needs
 returns-2 : tie.Need-returns-2
 returns-2 c =
     let filled = c .before .before .before .before in
-    let start = filled .before .before .before .before .before .before .before .before .before .before in
+    let start = filled .before .before .before .before .before .before .before .before .before .before .before in
     let a = start .args in
-    let m : Memory = memory (a .m) (a .store .now) (a .lengths .now) in
+    let m : Memory = memory (a .capacities .now) (a .store .now) (a .lengths .now) in
     let holds : can-hold m (a .values .now) ≡ true
     = sym (filled .before .before .before .before .fits2 .ensures) ∙ not-false _ (filled .before .before .before .if1 .left) in
-    lays-all m (a .values .now) holds _ _ (filled .fill .kept .1 .0) (filled .fill .ensures)
+    lays-all m (a .values .now) holds _ _ (filled .fill .ensures)
 
 pub fresh-spec : {M : Type 1} → statement M
 fresh-spec =

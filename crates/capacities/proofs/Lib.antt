@@ -1,0 +1,5 @@
+pub mod Lines
+pub mod Along
+pub mod Named
+pub mod Checked
+pub mod Cells
