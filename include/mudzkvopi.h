@@ -1,5 +1,5 @@
 /*
- * mudzkvopi.h: LOOP/WHILE programs, their 1# words, and runs of both. Version 4.
+ * mudzkvopi.h: LOOP/WHILE programs, their 1# words, and runs of both. Version 5.
  *
  * A host that translates a program, runs its word and shows its value (the tests compile and run
  * it):
@@ -12,6 +12,7 @@
  *     {
  *         const char *text = "loop X1\nX0 <- X0 + 1\nendloop X1\n"; // K = 2: X0 and X1
  *         static uint8_t word[1024], store[19 * 64];  // K + 17 registers of 64 symbols
+ *         uint16_t capacities[19];
  *         uint16_t lengths[19] = { 0, 3 };            // X1 is register 2, and is to be 3
  *         int32_t place = 1;
  *         uint32_t steps = 0;
@@ -22,15 +23,17 @@
  *             printf("refused %u %u\n", MUDZKVOPI_RULE(r), MUDZKVOPI_PLACE(r));
  *             return 1;
  *         }
+ *         for (int i = 0; i < 19; i++)
+ *             capacities[i] = 64;
  *         memset(store + 64, '1', 3);                 // "111" in register 2
- *         r = mudzkvopi_run_word(19, 64, store, sizeof store, lengths, 19, &place, &steps,
+ *         r = mudzkvopi_run_word(capacities, 19, store, sizeof store, lengths, 19, &place, &steps,
  *                                word, MUDZKVOPI_LOW(r), 1000000);
  *         if (MUDZKVOPI_WHAT(r) != MUDZKVOPI_HALTED) {
  *             printf("stopped after %u steps\n", MUDZKVOPI_STEPS(r));
  *             return 1;
  *         }
  *         printf("halted after %u steps, ", MUDZKVOPI_STEPS(r));
- *         r = mudzkvopi_value(19, 64, store, sizeof store, lengths, 19);
+ *         r = mudzkvopi_value(capacities, 19, store, sizeof store, lengths, 19);
  *         if (MUDZKVOPI_WHAT(r) == MUDZKVOPI_DONE)
  *             printf("value %u\n", MUDZKVOPI_LOW(r));
  *         else
@@ -58,14 +61,22 @@
  *
  *     a text of n bytes, or a word of n symbols          n
  *     a program's list of n commands                     3 * n
- *     a source state                                     204
- *     a machine: store and lengths                       (K + 17) * (capacity + 2)
+ *     a source state                                     328
+ *     a machine: store, capacities and lengths           the sum of the capacities + (K + 17) * 4
  *     a table of n instructions: kinds and operands      5 * n
  *
- * With 3 variables and a capacity of 1024 a machine is 20520 bytes; 1000 instructions are 5000; and
- * with a text of 1024, a word of 8192, a state, and 8192 of stack for translating, all is 43132.
+ * With 3 variables and capacities of 1024 a machine is 20560 bytes; 1000 instructions are 5000; and
+ * with a text of 1024, a word of 8192, a state, and 8192 of stack for translating, all is 43296.
  * HIGH and LOW of mudzkvopi_translate are the instructions and the symbols of the word. Once it is
  * read into a table the word need not be kept: mudzkvopi_run_table takes little stack.
+ *
+ * Capacities. Each register has its own, and so has each variable: that of its register. The word
+ * of a program of K variables has these in registers 1 to K. Behind them stand the scratch
+ * register, K + 1, which it names if there is a loop or a copy between two variables, and the
+ * counters, from K + 2 on, one for each depth of loops inside loops. As long as each of these that
+ * the word names has at least the largest capacity of a variable (rule 21), and neither run is
+ * SPENT, the source is FULL exactly when its word is (claim FullTogether); with a shorter one the
+ * word may be FULL alone. A register that the word doesn't name may have a capacity of 1.
  */
 #ifndef MUDZKVOPI_H
 #define MUDZKVOPI_H
@@ -77,12 +88,13 @@
 extern "C" {
 #endif
 
-#define MUDZKVOPI_VERSION 4
+#define MUDZKVOPI_VERSION 5
 
 /*
  * Stack, in bytes, for each call. These are measured, not proved: tests/stack.c calls each with the
  * deepest and longest program that is accepted and its word, and the tests fail where a call takes
- * more. mudzkvopi_run_word reads the word into its own stack; mudzkvopi_run_table copies nothing.
+ * more. mudzkvopi_run_word reads the word into its own stack; mudzkvopi_run_table copies nothing;
+ * mudzkvopi_report_on has the word and a machine of its own there.
  */
 #define MUDZKVOPI_STACK_READ_PROGRAM 4096
 #define MUDZKVOPI_STACK_WRITE_PROGRAM 1024
@@ -93,8 +105,9 @@ extern "C" {
 #define MUDZKVOPI_STACK_READ_WORD 1024
 #define MUDZKVOPI_STACK_WRITE_WORD 1024
 #define MUDZKVOPI_STACK_RUN_WORD 45056
-#define MUDZKVOPI_STACK_RUN_TABLE 2560
+#define MUDZKVOPI_STACK_RUN_TABLE 3584
 #define MUDZKVOPI_STACK_VALUE 1024
+#define MUDZKVOPI_STACK_REPORT_ON 196608
 
 /*
  * Results. A call answers with one number: bits 56 to 63 say what came of it, and the other bits go
@@ -121,8 +134,8 @@ enum mudzkvopi_what {
     MUDZKVOPI_HALTED = 1,  /* the run came to the line, or the place, after the last */
     MUDZKVOPI_STRAYED = 2, /* words only: the run is at any other place outside the word */
     MUDZKVOPI_SPENT = 3,   /* the budget is used up, or the count of steps stands at 4294967295 */
-    MUDZKVOPI_FULL = 4,    /* the next step, which isn't done, would put more than the capacity into
-                              a register or a variable */
+    MUDZKVOPI_FULL = 4,    /* the next step, which isn't done, would put more into a register or a
+                              variable than its capacity */
     MUDZKVOPI_UNTIDY = 5,  /* mudzkvopi_value only: a register other than the first isn't empty */
     MUDZKVOPI_REFUSED = 255
 };
@@ -132,8 +145,8 @@ enum mudzkvopi_what {
  * and answers with the first that applies. "1, 2, 3; each line by 4, 5, 20, 6, 7; 8; 19" says: the
  * whole text by 1, 2 and 3; then line after line, each by 4, 5, 20, 6 and 7 before the next one is
  * looked at; then 8, and last 19. Lines count from 1, and the commands of a list are its lines. 20
- * applies under the setting MUDZKVOPI_LOOP_ONLY alone. 16 to 18 are the run tool's: no call here
- * has a sheet, so they never come from C.
+ * applies under the setting MUDZKVOPI_LOOP_ONLY alone. 16 to 18 and 21 are those of a report, which
+ * prints them, as the run tool does: no call answers with them.
  */
 enum mudzkvopi_rule {
     MUDZKVOPI_TEXT_TOO_LONG = 1,   /* the text is over 16384 bytes (place 0) */
@@ -146,10 +159,10 @@ enum mudzkvopi_rule {
     MUDZKVOPI_NO_MATCH = 7,        /* a closing line doesn't match the innermost open pair, or none
                                       is open (the line) */
     MUDZKVOPI_LEFT_OPEN = 8,       /* a pair is left open (the innermost opening line) */
-    MUDZKVOPI_BAD_STATE = 9,       /* a source state isn't one of the program's, or doesn't have 51
-                                      numbers (0) */
-    MUDZKVOPI_BAD_MACHINE = 10,    /* a machine's sizes are outside the limits, or its store or
-                                      lengths aren't as laid down below (0) */
+    MUDZKVOPI_BAD_STATE = 9,       /* a source state isn't one of the program's, by the capacities
+                                      of the variables below K, or doesn't have 82 numbers (0) */
+    MUDZKVOPI_BAD_MACHINE = 10,    /* a machine's registers or a capacity are outside the limits, or
+                                      its store or lengths aren't as laid down below (0) */
     MUDZKVOPI_WORD_SIZE = 11,      /* the word is empty or above 600000 bytes (0) */
     MUDZKVOPI_NO_SYMBOL = 12,      /* a byte is neither '1' nor '#' (the first such, from 0) */
     MUDZKVOPI_NO_INSTRUCTION = 13, /* the word starts with '#', has a sixth '#' running, or ends in
@@ -162,10 +175,12 @@ enum mudzkvopi_rule {
                                       in primes (the line) */
     MUDZKVOPI_SHEET_NAME = 17,     /* a name isn't one of the program's variables, or comes twice,
                                       such as X1 and X' (the line) */
-    MUDZKVOPI_SHEET_VALUE = 18,    /* a value is above the capacity (the line) */
+    MUDZKVOPI_SHEET_VALUE = 18,    /* a value is above the capacity of its variable (the line) */
     MUDZKVOPI_NO_ROOM = 19,        /* a lent output is shorter than the result (0) */
-    MUDZKVOPI_NO_WHILE = 20        /* a `while` or `endwhile` line under the setting
+    MUDZKVOPI_NO_WHILE = 20,       /* a `while` or `endwhile` line under the setting
                                       MUDZKVOPI_LOOP_ONLY (the line) */
+    MUDZKVOPI_SHORT_REGISTER = 21  /* a scratch or counter register that the word names has less
+                                      capacity than the largest of a variable (0) */
 };
 
 /* Limits. An output of the size given here has room for every result. */
@@ -178,6 +193,9 @@ enum mudzkvopi_rule {
 #define MUDZKVOPI_MAX_INSTRUCTIONS 8192 /* of a word */
 #define MUDZKVOPI_MAX_REGISTERS 64      /* of a machine */
 #define MUDZKVOPI_MAX_CAPACITY 1024     /* symbols in a register, or the value of a variable */
+#define MUDZKVOPI_MAX_STORE 65536       /* bytes of a machine's store */
+#define MUDZKVOPI_MAX_SHEET 4096        /* bytes of a sheet */
+#define MUDZKVOPI_MAX_REPORT 147467     /* bytes of a report; none is longer */
 
 /* The version of the library that is linked: MUDZKVOPI_VERSION, if it is the one of this header. */
 uint32_t mudzkvopi_version(void);
@@ -247,16 +265,19 @@ uint64_t mudzkvopi_translate_list(
     size_t word_len);
 
 /*
- * Runs of a program. A state is 51 numbers. A fresh state has a capacity of 1 to 1024, line 1, the
- * values of the program's K variables to start from, each at most the capacity, and 0 for all else,
- * the values from K on too; a run leaves the state from which a later call goes on.
+ * Runs of a program. A state is 82 numbers. A fresh state has capacities of 1 to 1024 for the
+ * program's K variables, line 1, the values of these to start from, each at most its variable's
+ * capacity, and 0 for all else, the values from K on too; capacities from K on may be anything, and
+ * stay as they are. A run leaves the state from which a later call goes on. A copy that is too long
+ * for its target ends it as FULL, and the target keeps its value; the word, by then, has cleared
+ * the target and filled it.
  */
-#define MUDZKVOPI_STATE_NUMBERS 51
-#define MUDZKVOPI_STATE_CAPACITY 0 /* the most that a variable may hold */
-#define MUDZKVOPI_STATE_LINE 1     /* the line that comes next */
-#define MUDZKVOPI_STATE_STEPS 2    /* the steps of all runs so far */
-#define MUDZKVOPI_STATE_VALUES 3   /* 32 of them: variable i at 3 + i */
-#define MUDZKVOPI_STATE_PASSES 35  /* 16 of them: passes left of the loop inside so many others */
+#define MUDZKVOPI_STATE_NUMBERS 82
+#define MUDZKVOPI_STATE_CAPACITIES 0 /* 32 of them: the most that variable i may hold at i */
+#define MUDZKVOPI_STATE_LINE 32      /* the line that comes next */
+#define MUDZKVOPI_STATE_STEPS 33     /* the steps of all runs so far */
+#define MUDZKVOPI_STATE_VALUES 34    /* 32 of them: variable i at 34 + i */
+#define MUDZKVOPI_STATE_PASSES 66    /* 16 of them: passes left of the loop inside so many others */
 
 /*
  * Runs at most `budget` steps. HALTED, SPENT or FULL. Rules 1, 2, 3; each line by 4, 5, 20, 6, 7;
@@ -291,19 +312,19 @@ uint64_t mudzkvopi_write_word(
     uint8_t *word, size_t word_len);
 
 /*
- * Runs a word on a machine, at most `budget` steps. A machine has 1 to 64 registers, all of one
- * capacity of 1 to 1024 symbols. Register r, from 1, has its place in the store from byte (r - 1) *
- * capacity: its symbols, '1' and '#', and bytes of 0 after them. The store is exactly registers *
- * capacity bytes, and `lengths` has the number of symbols of each register. Variable i of a program
- * is register i + 1, a value is so many '1', and all other registers are empty at the start.
- * `place` is the place of the next instruction, 1 at the start, and any value is allowed; `steps`
- * counts the steps of all runs so far. HALTED, STRAYED, SPENT or FULL. Rules 10, 11, 12, 13, 14,
- * 15.
+ * Runs a word on a machine, at most `budget` steps. A machine has 1 to 64 registers, as many as
+ * there are capacities, each of 1 to 1024 symbols. The places of the registers follow one another
+ * in the store, from byte 0, each as long as its register's capacity: the symbols, '1' and '#', and
+ * bytes of 0 after them. The store is exactly the sum of the capacities, and `lengths` has the
+ * number of symbols of each register. Variable i of a program is register i + 1, a value is so many
+ * '1', and all other registers are empty at the start. `place` is the place of the next
+ * instruction, 1 at the start, and any value is allowed; `steps` counts the steps of all runs so
+ * far. HALTED, STRAYED, SPENT or FULL. Rules 10, 11, 12, 13, 14, 15.
  */
 uint64_t mudzkvopi_run_word(
-    uint32_t registers, uint32_t capacity, uint8_t *store, size_t store_len, uint16_t *lengths,
-    size_t lengths_len, int32_t *place, uint32_t *steps, const uint8_t *word, size_t word_len,
-    uint32_t budget);
+    const uint16_t *capacities, size_t capacities_len, uint8_t *store, size_t store_len,
+    uint16_t *lengths, size_t lengths_len, int32_t *place, uint32_t *steps, const uint8_t *word,
+    size_t word_len, uint32_t budget);
 
 /*
  * The same for a word that was read into kinds and operands, which are run as they are lent: for
@@ -311,9 +332,9 @@ uint64_t mudzkvopi_run_word(
  * what they mean for mudzkvopi_write_word, and places are instructions, from 0.
  */
 uint64_t mudzkvopi_run_table(
-    uint32_t registers, uint32_t capacity, uint8_t *store, size_t store_len, uint16_t *lengths,
-    size_t lengths_len, int32_t *place, uint32_t *steps, const uint8_t *kinds, size_t kinds_len,
-    const uint32_t *operands, size_t operands_len, uint32_t budget);
+    const uint16_t *capacities, size_t capacities_len, uint8_t *store, size_t store_len,
+    uint16_t *lengths, size_t lengths_len, int32_t *place, uint32_t *steps, const uint8_t *kinds,
+    size_t kinds_len, const uint32_t *operands, size_t operands_len, uint32_t budget);
 
 /*
  * The value of a halted word, from the machine as its run left it. DONE: every register but the
@@ -322,8 +343,22 @@ uint64_t mudzkvopi_run_table(
  * place: look at the run's end first, for only a word that is HALTED has a value. Rule 10.
  */
 uint64_t mudzkvopi_value(
-    uint32_t registers, uint32_t capacity, const uint8_t *store, size_t store_len,
+    const uint16_t *capacities, size_t capacities_len, const uint8_t *store, size_t store_len,
     const uint16_t *lengths, size_t lengths_len);
+
+/*
+ * Runs a program and its plain word for each line of values of a sheet, on machines of 64 registers
+ * of the given capacities, and writes what the run tool prints; with 64 times 1024 it is the run
+ * tool's report. The budgets are the run tool's too: 100000 steps of a source and 1000000 of a
+ * word. DONE: LOW the bytes that were written, which are a header and a line for each run, or
+ * "refused", the rule and the place with single blanks, and LF. The rules that are printed so: 1,
+ * 2, 3; each line by 4, 5, 6, 7; 8; 10, if there aren't exactly 64 capacities, each of 1 to 1024;
+ * 21; 16, 17 and 18 of the sheet, line by line; 19, if the word has more than 65536 symbols. The
+ * call itself is REFUSED only where the output is shorter than what is to be written (19).
+ */
+uint64_t mudzkvopi_report_on(
+    const uint8_t *text, size_t text_len, const uint8_t *sheet, size_t sheet_len,
+    const uint16_t *capacities, size_t capacities_len, uint8_t *out, size_t out_len);
 
 #ifdef __cplusplus
 }

@@ -1,7 +1,7 @@
 /*
  * A host of the library in C: translates a program, prints its word as the label has it, runs the program and the word, and prints the
  * counts of both. Then the same from a list, a table run twice, a budget cut in two, a run that is full, names in primes, values and the
- * tidy form, the LOOP-only setting, and refusals. What it writes is held to host-expected.txt.
+ * tidy form, registers of unequal length, reports, the LOOP-only setting, and refusals. What it writes is held to host-expected.txt.
  */
 #include <inttypes.h>
 #include <stdio.h>
@@ -18,6 +18,7 @@ static const char adder_in_primes[] = "loop X'\nX <- X0 + 1\nendloop X1\n";
 static uint8_t word[MUDZKVOPI_MAX_WORD];
 static uint8_t store[REGISTERS * CAPACITY];
 static uint16_t lengths[REGISTERS];
+static uint16_t capacities[REGISTERS];
 
 static const char *name(uint64_t result)
 {
@@ -61,11 +62,12 @@ static uint64_t translate(const char *text)
     return translate_as(MUDZKVOPI_PLAIN, text, sizeof word);
 }
 
-/* A fresh state with one value. */
+/* A fresh state with one value, and one capacity for all variables. */
 static void fresh_state(uint32_t *state, uint32_t capacity, uint32_t variable, uint32_t value)
 {
     memset(state, 0, MUDZKVOPI_STATE_NUMBERS * sizeof *state);
-    state[MUDZKVOPI_STATE_CAPACITY] = capacity;
+    for (size_t i = 0; i <= MUDZKVOPI_MAX_INDEX; i++)
+        state[MUDZKVOPI_STATE_CAPACITIES + i] = capacity;
     state[MUDZKVOPI_STATE_LINE] = 1;
     state[MUDZKVOPI_STATE_VALUES + variable] = value;
 }
@@ -75,9 +77,17 @@ static uint64_t run_adder(uint32_t *state, size_t numbers, uint32_t budget)
     return mudzkvopi_run_source(MUDZKVOPI_ANY, (const uint8_t *)adder, strlen(adder), state, numbers, budget);
 }
 
-/* A machine whose registers are empty, but for the one of a variable. */
+/* The capacities of all registers. */
+static void set_capacities(uint32_t capacity)
+{
+    for (size_t r = 0; r < REGISTERS; r++)
+        capacities[r] = (uint16_t)capacity;
+}
+
+/* A machine of one capacity, whose registers are empty, but for the one of a variable. */
 static void fresh_machine(uint32_t capacity, uint32_t variable, uint32_t value)
 {
+    set_capacities(capacity);
     memset(store, 0, sizeof store);
     memset(lengths, 0, sizeof lengths);
     memset(store + variable * capacity, '1', value);
@@ -98,7 +108,7 @@ static void run_both(const char *text, uint32_t capacity, uint32_t variable, uin
     printf("X0 is %" PRIu32 "\n", state[MUDZKVOPI_STATE_VALUES]);
 
     fresh_machine(capacity, variable, value);
-    result = mudzkvopi_run_word(REGISTERS, capacity, store, REGISTERS * (size_t)capacity, lengths, REGISTERS, &place, &steps, word,
+    result = mudzkvopi_run_word(capacities, REGISTERS, store, REGISTERS * (size_t)capacity, lengths, REGISTERS, &place, &steps, word,
         MUDZKVOPI_LOW(translated), 1000000);
     print_result("word", result);
     printf("register 1 has %u symbols, place %" PRId32 ", %" PRIu32 " steps\n", (unsigned)lengths[0], place, steps);
@@ -162,7 +172,7 @@ static void table(void)
         uint32_t steps = 0;
         fresh_machine(CAPACITY, 1, value);
         print_result("table", mudzkvopi_run_table(
-            REGISTERS, CAPACITY, store, sizeof store, lengths, REGISTERS, &place, &steps, kinds, count, operands, count, 1000000));
+            capacities, REGISTERS, store, sizeof store, lengths, REGISTERS, &place, &steps, kinds, count, operands, count, 1000000));
         printf("register 1 has %u symbols, place %" PRId32 ", %" PRIu32 " steps\n", (unsigned)lengths[0], place, steps);
     }
 }
@@ -190,12 +200,70 @@ static void value(uint32_t form)
     print_result("translate", translated);
     printf("%.*s\n", (int)MUDZKVOPI_LOW(translated), (const char *)word);
     fresh_machine(CAPACITY, 1, 3);
-    print_result("word", mudzkvopi_run_word(REGISTERS, CAPACITY, store, sizeof store, lengths, REGISTERS, &place, &steps, word,
+    print_result("word", mudzkvopi_run_word(capacities, REGISTERS, store, sizeof store, lengths, REGISTERS, &place, &steps, word,
         MUDZKVOPI_LOW(translated), 1000000));
-    result = mudzkvopi_value(REGISTERS, CAPACITY, store, sizeof store, lengths, REGISTERS);
+    result = mudzkvopi_value(capacities, REGISTERS, store, sizeof store, lengths, REGISTERS);
     print_result("value", result);
     if (MUDZKVOPI_WHAT(result) == MUDZKVOPI_DONE)
         printf("%.*s\n", (int)MUDZKVOPI_LOW(result), (const char *)store);
+}
+
+/*
+ * A copy of X0, whose register has 5, into X1, whose register has 3, from a value and 2: the source in one run, the word in two of 10 steps
+ * and the rest; and the value of what it leaves. The scratch register has 5.
+ */
+static void unequal(uint32_t x0)
+{
+    static const char copy[] = "X1 <- X0\n";
+    static const uint16_t three[] = { 5, 3, 5 };
+    uint64_t translated = translate(copy);
+    uint32_t state[MUDZKVOPI_STATE_NUMBERS] = { 5, 3 };
+    uint8_t small[13] = { 0 };
+    uint16_t held[] = { (uint16_t)x0, 2, 0 };
+    int32_t place = 1;
+    uint32_t steps = 0;
+
+    state[MUDZKVOPI_STATE_LINE] = 1;
+    state[MUDZKVOPI_STATE_VALUES] = x0;
+    state[MUDZKVOPI_STATE_VALUES + 1] = 2;
+    print_result("source", mudzkvopi_run_source(
+        MUDZKVOPI_ANY, (const uint8_t *)copy, strlen(copy), state, MUDZKVOPI_STATE_NUMBERS, 100000));
+    printf("X1 is %" PRIu32 "\n", state[MUDZKVOPI_STATE_VALUES + 1]);
+    memset(small, '1', x0);
+    memset(small + 5, '1', 2);
+    print_result("first 10", mudzkvopi_run_word(three, 3, small, 13, held, 3, &place, &steps, word, MUDZKVOPI_LOW(translated), 10));
+    print_result("the rest", mudzkvopi_run_word(three, 3, small, 13, held, 3, &place, &steps, word, MUDZKVOPI_LOW(translated), 1000));
+    printf("registers of %u, %u and %u, place %" PRId32 ", %" PRIu32 " steps\n", (unsigned)held[0], (unsigned)held[1], (unsigned)held[2],
+        place, steps);
+    print_result("value", mudzkvopi_value(three, 3, small, 13, held, 3));
+}
+
+static void report(const char *text, const char *sheet, size_t registers, size_t room)
+{
+    static uint8_t out[MUDZKVOPI_MAX_REPORT];
+    uint64_t result = mudzkvopi_report_on(
+        (const uint8_t *)text, strlen(text), (const uint8_t *)sheet, strlen(sheet), capacities, registers, out, room);
+
+    print_result("report_on", result);
+    if (MUDZKVOPI_WHAT(result) == MUDZKVOPI_DONE)
+        printf("%.*s", (int)MUDZKVOPI_LOW(result), (const char *)out);
+}
+
+/* Reports: of the run tool's registers; of a short X0; and what is refused, which is printed, but for an output without room. */
+static void reports(void)
+{
+    set_capacities(CAPACITY);
+    report(adder, "X1\n3\n0\n", REGISTERS, MUDZKVOPI_MAX_REPORT);
+    set_capacities(5);
+    capacities[0] = 3;
+    report(adder, "X1\n3\n4\n", REGISTERS, MUDZKVOPI_MAX_REPORT);
+    report("X0 <- X1\n", "X0 X1\n2 3\n2 4\n", REGISTERS, MUDZKVOPI_MAX_REPORT);
+    report("X0 <- X1\n", "X0 X1\n2 3\n4 2\n", REGISTERS, MUDZKVOPI_MAX_REPORT);
+    report("X0 <- X1\n", "X0 X1\n2 3\n", REGISTERS - 1, MUDZKVOPI_MAX_REPORT);
+    capacities[2] = 4;
+    report("X0 <- X1\n", "X0 X1\n2 3\n", REGISTERS, MUDZKVOPI_MAX_REPORT);
+    report("X0 <- X1\n", "X0 X1\n2 3\n", REGISTERS, 13);
+    report("X0 <- X1\n", "X0 X1\n2 3\n", REGISTERS, 12);
 }
 
 /*
@@ -244,16 +312,22 @@ static void refusals(void)
     print_result("no room for the tidy word", translate_as(MUDZKVOPI_TIDY, adder, 100));
     fresh_state(state, CAPACITY, 2, 1);
     print_result("a value too many", run_adder(state, MUDZKVOPI_STATE_NUMBERS, 1));
-    print_result("50 numbers", run_adder(state, 50, 1));
+    print_result("81 numbers", run_adder(state, MUDZKVOPI_STATE_NUMBERS - 1, 1));
     fresh_machine(CAPACITY, 0, 1);
-    print_result("value of a short store", mudzkvopi_value(2, CAPACITY, store, CAPACITY, lengths, 2));
-    print_result("short store", mudzkvopi_run_word(2, CAPACITY, store, CAPACITY, lengths, 2, &place, &steps, (const uint8_t *)"1#", 2, 1));
-    print_result(
-        "no register", mudzkvopi_run_word(2, CAPACITY, store, 2 * CAPACITY, lengths, 2, &place, &steps, (const uint8_t *)"1#111#", 6, 1));
+    print_result("value of a short store", mudzkvopi_value(capacities, 2, store, CAPACITY, lengths, 2));
+    print_result("short store", mudzkvopi_run_word(
+        capacities, 2, store, CAPACITY, lengths, 2, &place, &steps, (const uint8_t *)"1#", 2, 1));
+    print_result("no register", mudzkvopi_run_word(
+        capacities, 2, store, 2 * CAPACITY, lengths, 2, &place, &steps, (const uint8_t *)"1#111#", 6, 1));
     print_result("no register in a table", mudzkvopi_run_table(
-        2, CAPACITY, store, 2 * CAPACITY, lengths, 2, &place, &steps, (const uint8_t[]){ 1, 1 }, 2, (const uint32_t[]){ 1, 3 }, 2, 1));
+        capacities, 2, store, 2 * CAPACITY, lengths, 2, &place, &steps, (const uint8_t[]){ 1, 1 }, 2, (const uint32_t[]){ 1, 3 }, 2, 1));
     print_result("an operand too few", mudzkvopi_run_table(
-        2, CAPACITY, store, 2 * CAPACITY, lengths, 2, &place, &steps, (const uint8_t[]){ 1, 1 }, 2, (const uint32_t[]){ 1 }, 1, 1));
+        capacities, 2, store, 2 * CAPACITY, lengths, 2, &place, &steps, (const uint8_t[]){ 1, 1 }, 2, (const uint32_t[]){ 1 }, 1, 1));
+    capacities[1] = CAPACITY + 1;
+    print_result("a capacity of 1025", mudzkvopi_value(capacities, 2, store, 2 * CAPACITY + 1, lengths, 2));
+    state[MUDZKVOPI_STATE_VALUES + 2] = 0;
+    state[MUDZKVOPI_STATE_CAPACITIES + 1] = CAPACITY + 1;
+    print_result("a variable's of 1025", run_adder(state, MUDZKVOPI_STATE_NUMBERS, 1));
     printf("place %" PRId32 ", %" PRIu32 " steps, register 1 has %u symbols\n", place, steps, (unsigned)lengths[0]);
 }
 
@@ -274,6 +348,9 @@ int main(void)
     value(MUDZKVOPI_PLAIN);
     value(MUDZKVOPI_TIDY);
     value(7); /* counts as plain */
+    unequal(3);
+    unequal(4);
+    reports();
     lesson(MUDZKVOPI_ANY);
     lesson(MUDZKVOPI_LOOP_ONLY);
     lesson(7); /* counts as LOOP-only */

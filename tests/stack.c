@@ -1,7 +1,8 @@
 /*
  * The stack that each entry takes, held to what the header promises: it is called on a thread whose stack was painted, and the bytes that
  * are no longer paint are counted, less the same count for an entry that does nothing. The inputs are the deepest and longest that are
- * accepted: 16 loops around 480 copies, and its tidy word of 312,067 symbols.
+ * accepted: 16 loops around 480 copies, and its tidy word of 312,067 symbols; and for a report 16 loops around 90 too, whose word has room
+ * in its buffer.
  */
 #define _GNU_SOURCE
 #include <pthread.h>
@@ -14,14 +15,15 @@
 #define STACK (1 << 20)
 #define PAINT 0xa5
 
-static char text[MUDZKVOPI_MAX_TEXT];
-static size_t text_len;
+static char text[MUDZKVOPI_MAX_TEXT], shorter[MUDZKVOPI_MAX_TEXT];
+static size_t text_len, shorter_len;
 static uint8_t word[MUDZKVOPI_MAX_WORD], back[MUDZKVOPI_MAX_WORD];
 static size_t word_len, count;
 static uint8_t list[MUDZKVOPI_MAX_LIST], kinds[MUDZKVOPI_MAX_INSTRUCTIONS], bytes[MUDZKVOPI_MAX_TEXT];
 static uint32_t operands[MUDZKVOPI_MAX_INSTRUCTIONS], state[MUDZKVOPI_STATE_NUMBERS];
 static uint8_t store[64 * 1024];
-static uint16_t lengths[64];
+static uint16_t lengths[64], capacities[64];
+static uint8_t report[MUDZKVOPI_MAX_REPORT];
 static int32_t place = 1;
 static uint32_t steps;
 
@@ -51,12 +53,19 @@ static void read_word(void)
     count = MUDZKVOPI_LOW(mudzkvopi_read_word(word, word_len, kinds, sizeof kinds, operands, MUDZKVOPI_MAX_INSTRUCTIONS));
 }
 static void write_word(void) { mudzkvopi_write_word(kinds, count, operands, count, back, sizeof back); }
-static void run_word(void) { mudzkvopi_run_word(64, 1024, store, sizeof store, lengths, 64, &place, &steps, word, word_len, 1000); }
+static void run_word(void) { mudzkvopi_run_word(capacities, 64, store, sizeof store, lengths, 64, &place, &steps, word, word_len, 1000); }
 static void run_table(void)
 {
-    mudzkvopi_run_table(64, 1024, store, sizeof store, lengths, 64, &place, &steps, kinds, count, operands, count, 1000);
+    mudzkvopi_run_table(capacities, 64, store, sizeof store, lengths, 64, &place, &steps, kinds, count, operands, count, 1000);
 }
-static void value(void) { mudzkvopi_value(64, 1024, store, sizeof store, lengths, 64); }
+static void report_on(void)
+{
+    static const char sheet[] = "X31\n5\n1024\n";
+
+    mudzkvopi_report_on((uint8_t *)text, text_len, (const uint8_t *)sheet, sizeof sheet - 1, capacities, 64, report, sizeof report);
+    mudzkvopi_report_on((uint8_t *)shorter, shorter_len, (const uint8_t *)sheet, sizeof sheet - 1, capacities, 64, report, sizeof report);
+}
+static void value(void) { mudzkvopi_value(capacities, 64, store, sizeof store, lengths, 64); }
 
 static void *call(void *entry)
 {
@@ -82,6 +91,20 @@ static size_t stack_of(void (*entry)(void))
     return sizeof stack - unused;
 }
 
+/* 16 loops around so many copies; the length. */
+static size_t nested(char *into, int copies)
+{
+    size_t len = 0;
+
+    for (int i = 0; i < 16; i++)
+        len += (size_t)sprintf(into + len, "loop X31\n");
+    for (int i = 0; i < copies; i++)
+        len += (size_t)sprintf(into + len, "X31 <- X30\n");
+    for (int i = 0; i < 16; i++)
+        len += (size_t)sprintf(into + len, "endloop X31\n");
+    return len;
+}
+
 int main(void)
 {
     struct { const char *name; void (*entry)(void); size_t most; } entries[] = {
@@ -96,17 +119,17 @@ int main(void)
         { "run_word", run_word, MUDZKVOPI_STACK_RUN_WORD },
         { "run_table", run_table, MUDZKVOPI_STACK_RUN_TABLE },
         { "value", value, MUDZKVOPI_STACK_VALUE },
+        { "report_on", report_on, MUDZKVOPI_STACK_REPORT_ON },
     };
     int too_much = 0;
     size_t base = stack_of(version);
 
-    for (int i = 0; i < 16; i++)
-        text_len += (size_t)sprintf(text + text_len, "loop X31\n");
-    for (int i = 0; i < 480; i++)
-        text_len += (size_t)sprintf(text + text_len, "X31 <- X30\n");
-    for (int i = 0; i < 16; i++)
-        text_len += (size_t)sprintf(text + text_len, "endloop X31\n");
-    state[MUDZKVOPI_STATE_CAPACITY] = 1024;
+    text_len = nested(text, 480);
+    shorter_len = nested(shorter, 90);
+    for (int i = 0; i < 32; i++)
+        state[MUDZKVOPI_STATE_CAPACITIES + i] = 1024;
+    for (int r = 0; r < 64; r++)
+        capacities[r] = 1024;
     state[MUDZKVOPI_STATE_LINE] = 1;
     state[MUDZKVOPI_STATE_VALUES + 31] = 5;
     for (size_t i = 0; i < sizeof entries / sizeof *entries; i++) {

@@ -91,6 +91,7 @@ pub enum Case {
     RunTable { kinds: Vec<u8>, operands: Vec<u32>, machine: Machine, budget: u32 },
     Value { machine: Machine },
     Report { text: Vec<u8>, sheet: Vec<u8> },
+    ReportOn { text: Vec<u8>, sheet: Vec<u8>, capacities: Vec<u16>, lent: usize },
 }
 
 impl fmt::Debug for Case {
@@ -111,11 +112,15 @@ impl fmt::Debug for Case {
             }
             Case::Value { machine } => write!(f, "{machine:?}"),
             Case::Report { text, sheet } => write!(f, "\"{}\", sheet \"{}\"", text.escape_ascii(), sheet.escape_ascii()),
+            Case::ReportOn { text, sheet, capacities, lent } => {
+                write!(f, "\"{}\", sheet \"{}\", on {capacities:?}, lent {lent}", text.escape_ascii(), sheet.escape_ascii())
+            }
         }
     }
 }
 
-/// The answer, and all lent memory as it is after the call; for the run tool, what it printed.
+/// The answer, and all lent memory as it is after the call; for the run tool, what it printed. A report on given registers has the answer
+/// that it prints, and before the memory how many bytes the call says that it wrote.
 #[derive(PartialEq, Eq, Debug)]
 pub struct Outcome {
     pub answer: Answer,
@@ -210,6 +215,13 @@ fn value(machine: &Machine) -> Outcome {
     Outcome { answer, memory: memory(machine) }
 }
 
+/// The report that a call wrote, by what it answered and what it left in its output.
+fn reported(answer: Answer, out: &[u32]) -> Outcome {
+    let Answer::Done { high: 0, low } = answer else { return Outcome { answer, memory: [&[0], out].concat() } };
+    let text: String = out.iter().take(low as usize).map(|&b| char::from(b as u8)).collect();
+    Outcome { answer: printed(&text).answer, memory: [&[low], out].concat() }
+}
+
 fn printed(text: &str) -> Outcome {
     let answer = match tool::refusal(text) {
         Some(r) => Answer::Refused(r),
@@ -233,6 +245,7 @@ impl Case {
             Case::RunTable { .. } => "run a table",
             Case::Value { .. } => "value",
             Case::Report { .. } => "the run tool",
+            Case::ReportOn { .. } => "report on registers",
         }
     }
 
@@ -264,6 +277,10 @@ impl Case {
             }
             Case::Value { machine } => value(machine),
             Case::Report { text, sheet } => printed(&tool::report(text, sheet)),
+            Case::ReportOn { text, sheet, capacities, lent } => {
+                let written = written(Ok(tool::report_on(text, sheet, capacities).into_bytes()), *lent, 0, 1);
+                reported(written.answer, &written.memory)
+            }
         }
     }
 
@@ -305,6 +322,10 @@ impl Case {
             Case::RunTable { kinds, operands, machine, budget } => run(machine, Code::Table(kinds, operands), *budget),
             Case::Value { machine } => Outcome { answer: library::value(machine), memory: memory(machine) },
             Case::Report { text, sheet } => printed(&tool.run(text, sheet)),
+            Case::ReportOn { text, sheet, capacities, lent } => {
+                let called = bytes(*lent, &|out| library::report_on(text, sheet, capacities, out));
+                reported(called.answer, &called.memory)
+            }
         }
     }
 
@@ -359,6 +380,19 @@ impl Case {
                 let texts = shorter(text).map(|text| Case::Report { text, sheet: sheet.clone() });
                 Box::new(texts.chain(shorter(sheet).map(|sheet| Case::Report { text: text.clone(), sheet })))
             }
+            Case::ReportOn { text, sheet, capacities, lent } => {
+                let with = |text: &[u8], sheet: &[u8], capacities: &[u16], lent: usize| Case::ReportOn {
+                    text: text.to_vec(),
+                    sheet: sheet.to_vec(),
+                    capacities: capacities.to_vec(),
+                    lent,
+                };
+                let texts = shorter(text).map(move |text| with(&text, sheet, capacities, *lent));
+                let sheets = shorter(sheet).map(move |sheet| with(text, &sheet, capacities, *lent));
+                let narrower = lower(&numbers(capacities)).map(|c| c.iter().map(|&n| n as u16).collect::<Vec<_>>()).collect::<Vec<_>>();
+                let narrower = narrower.into_iter().map(move |capacities| with(text, sheet, &capacities, *lent));
+                Box::new(texts.chain(sheets).chain(narrower).chain(less(*lent).map(move |lent| with(text, sheet, capacities, lent))))
+            }
         }
     }
 }
@@ -394,20 +428,20 @@ fn emptier(machine: &Machine) -> Vec<Machine> {
     if machine.place != 1 {
         found.push(Machine { place: 1, ..machine.clone() });
     }
-    if machine.store.len() != machine.registers * machine.capacity || machine.lengths.len() != machine.registers {
+    let registers = machine.registers();
+    if machine.store.len() != machine.offset(registers + 1) || machine.lengths.len() != registers {
         return found;
     }
-    for at in (0..machine.registers).filter(|&at| machine.lengths[at] > 0) {
+    for r in (1..=registers).filter(|&r| machine.lengths[r - 1] > 0) {
         let mut emptied = machine.clone();
-        emptied.lengths[at] = 0;
-        emptied.store[at * machine.capacity..(at + 1) * machine.capacity].fill(0);
+        emptied.empty(r);
         found.push(emptied);
     }
-    if machine.registers > 1 {
+    if registers > 1 {
         let mut fewer = machine.clone();
-        fewer.registers -= 1;
-        fewer.lengths.truncate(fewer.registers);
-        fewer.store.truncate(fewer.registers * fewer.capacity);
+        fewer.store.truncate(machine.offset(registers));
+        fewer.lengths.pop();
+        fewer.capacities.pop();
         found.push(fewer);
     }
     found

@@ -104,7 +104,7 @@ const BESIDE_20: [(&str, [u8; 3]); 14] = [
 ];
 
 /// Programs that halt, go on for ever, or get full, each with the values that it starts from.
-pub const SAMPLES: [(&[u8], &[u32]); 9] = [
+pub const SAMPLES: [(&[u8], &[u32]); 13] = [
     (b"", &[]),
     (b"loop X1\nX0 <- X0 + 1\nendloop X1\n", &[0, 3]),
     (b"loop X0\nendloop X0\n", &[2]),
@@ -114,6 +114,10 @@ pub const SAMPLES: [(&[u8], &[u32]); 9] = [
     (b"while X0 != 0\nX1 <- X0\nendwhile X0 != 0\n", &[1]),
     (b"X0 <- X0 + 1\nX0 <- X0 + 1\n", &[4]),
     (b"loop X0\nX0 <- X0 + 1\nX1 <- X0\nendloop X0\n", &[4]),
+    (b"X1 <- X0\n", &[5, 2]),
+    (b"X0 <- X0 + 1\nX2 <- X2\nX1 <- X2\nX2 <- X0\n", &[3, 1, 4]),
+    (b"loop X1\nloop X0\nX2 <- X0\nendloop X0\nendloop X1\n", &[3, 2]),
+    (b"X3 <- X3 + 1\nwhile X3 != 0\nX1 <- X3\nX3 <- X3 + 1\nendwhile X3 != 0\n", &[0, 1, 0, 1]),
 ];
 
 fn values(start: &[u32]) -> [u32; 32] {
@@ -342,25 +346,51 @@ pub fn tables() -> Vec<(Vec<u8>, Vec<u32>)> {
     found
 }
 
-/// Machines with small stores whose sizes or layout are at or past a limit.
+/// Numbers of registers at the limits and where numbers of 8 or 16 bits start anew.
+const COUNTS: [usize; 9] = [0, 1, 2, 4, machine::REGISTERS, machine::REGISTERS + 1, 256 + 3, 65_536, 65_536 + 3];
+
+/// Capacities at the limits.
+const WIDTHS: [u16; 9] = [0, 1, 3, 5, machine::CAPACITY as u16, machine::CAPACITY as u16 + 1, 32_767, 32_768, u16::MAX];
+
+/// Machines with small stores, of equal and of unequal capacities, whose sizes or layout are at or past a limit.
 pub fn machines() -> Vec<Machine> {
-    let good = Machine::fresh(3, 4, &[b"1#11".to_vec(), b"#".to_vec()]);
+    let contents = [b"1#11".to_vec(), b"#".to_vec()];
+    [[4, 4, 4], [6, 1, 5], [4, 7, 1], [5, 2, 5]].iter().flat_map(|capacities| beside(&Machine::fresh(capacities, &contents))).collect()
+}
+
+/// A machine of three registers and 12 bytes, and those beside it.
+fn beside(good: &Machine) -> Vec<Machine> {
     let mut found = vec![good.clone()];
-    for registers in [0, 1, 2, 4, machine::REGISTERS, machine::REGISTERS + 1, u32::MAX as usize] {
-        found.push(Machine { registers, ..good.clone() });
-        found.push(Machine { registers, ..Machine::fresh(registers.min(99), 4, &[]) });
+    for count in COUNTS {
+        let capacities: Vec<u16> = good.capacities.iter().copied().cycle().take(count).collect();
+        found.push(Machine { capacities: capacities.clone(), ..good.clone() });
+        found.push(Machine { capacities: capacities.clone(), lengths: vec![0; count], ..good.clone() });
+        if count < 999 {
+            found.push(Machine::fresh(&capacities, &[]));
+        }
     }
-    for capacity in [0, 1, 3, 5, machine::CAPACITY, machine::CAPACITY + 1, 1 << 26, 1 << 30, u32::MAX as usize] {
-        found.push(Machine { capacity, ..good.clone() });
-        found.push(Machine { capacity, ..Machine::fresh(3, capacity.min(2000), &[]) });
-        found.push(Machine { registers: 64, capacity, store: Vec::new(), ..Machine::fresh(64, 1, &[]) });
+    for (at, width) in (0..3).flat_map(|at| WIDTHS.map(|width| (at, width))) {
+        let mut capacities = good.capacities.clone();
+        capacities[at] = width;
+        found.push(Machine { capacities: capacities.clone(), ..good.clone() });
+        found.push(Machine::fresh(&capacities, &[]));
     }
-    for length in [0, 1, 2, 3, 4, 5, 255, 256, 260, u16::MAX] {
-        for at in 0..3 {
+    for width in WIDTHS {
+        found.push(Machine { store: Vec::new(), ..Machine::alike(64, width.into(), &[]) });
+    }
+    // as many bytes in all, but the places begin elsewhere; 0 bytes of a register, and they are another's
+    for (from, to) in [(0, 1), (0, 2), (1, 0), (1, 2), (2, 0), (2, 1)] {
+        for moved in [1, good.capacities[from]] {
             let mut machine = good.clone();
-            machine.lengths[at] = length;
+            machine.capacities[from] -= moved;
+            machine.capacities[to] += moved;
             found.push(machine);
         }
+    }
+    for (length, at) in [0, 1, 2, 3, 4, 5, 6, 7, 255, 256, 260, u16::MAX].into_iter().flat_map(|length| [0, 1, 2].map(|at| (length, at))) {
+        let mut machine = good.clone();
+        machine.lengths[at] = length;
+        found.push(machine);
     }
     for (at, byte) in (0..12).flat_map(|at| [0, b'1', b'#', b'2', b'0', 0xff].map(|byte| (at, byte))) {
         let mut machine = good.clone();
@@ -369,10 +399,11 @@ pub fn machines() -> Vec<Machine> {
     }
     for cut in 0..3 {
         found.push(Machine { lengths: good.lengths[..cut].to_vec(), ..good.clone() });
+        found.push(Machine { capacities: good.capacities[..cut].to_vec(), ..good.clone() });
         found.push(Machine { store: good.store[..12 - cut - 1].to_vec(), ..good.clone() });
     }
     found.push(Machine { lengths: vec![0; 4], ..good.clone() });
-    found.push(Machine { store: vec![0; 13], ..good });
+    found.push(Machine { store: vec![0; 13], ..good.clone() });
     found
 }
 
@@ -387,44 +418,85 @@ pub fn left_over() -> Vec<Machine> {
                 all.resize(at, Vec::new());
                 all.push(other.clone());
                 all.truncate(registers);
-                found.push(Machine::fresh(registers, capacity, &all));
+                found.push(Machine::alike(registers, capacity, &all));
             }
         }
     }
     found
 }
 
-/// States of a sample program as numbers, each of them put at or past a limit.
-pub fn states(commands: &[Command], start: &[u32]) -> Vec<Vec<u32>> {
-    let fresh = State::fresh(5, values(start)).numbers().to_vec();
-    let mut found = vec![fresh.clone(), fresh[..50].to_vec(), Vec::new(), [&fresh[..], &[0]].concat()];
-    let lines = commands.len() as u32;
-    for line in (0..lines + 3).chain([u32::MAX]) {
-        for passes in [[0, 0], [1, 0], [5, 5], [6, 0], [1, 6], [0, 1], [u32::MAX, 0]] {
-            let mut state = fresh.clone();
-            state[1] = line;
-            state[35..37].copy_from_slice(&passes);
-            found.push(state);
+/// The capacities of 64 registers: all alike; a short X1, of which copies are full; short helpers, behind the first four registers; a long
+/// one among short ones; and the last variables short.
+pub const CAPACITIES: [[u16; 64]; 5] = {
+    let mut found = [[5; 64]; 5];
+    found[1][1] = 3;
+    let mut at = 4;
+    while at < 64 {
+        found[2][at] = 2;
+        found[3][at] = 9;
+        at += 1;
+    }
+    found[3][0] = 8;
+    found[3][2] = 1;
+    found[4][2] = 4;
+    found[4][3] = 6;
+    found
+};
+
+/// The capacities of 64 registers and those beside them: one of the first ten, or the last, at a limit or beside what it was; and another
+/// number of them.
+pub fn beside_capacities(capacities: &[u16; 64]) -> Vec<Vec<u16>> {
+    let mut found = vec![capacities.to_vec()];
+    for at in (0..10).chain([63]) {
+        for width in [0, capacities[at] - 1, capacities[at] + 1, 1_024, 1_025, u16::MAX] {
+            let mut list = capacities.to_vec();
+            list[at] = width;
+            found.push(list);
         }
     }
+    found.extend([0, 1, 20, 63, 65, 256 + 64, 65_536 + 64].map(|count| capacities.iter().copied().cycle().take(count).collect()));
+    found
+}
+
+/// States of a sample program as numbers, each of them put at or past a limit.
+pub fn states(commands: &[Command], start: &[u32], capacities: &[u16; 64]) -> Vec<Vec<u32>> {
     let k = variables(commands);
-    for (at, value) in [(0, 0), (0, 1), (0, source::CAPACITY), (0, source::CAPACITY + 1), (0, u32::MAX), (2, u32::MAX), (50, 1), (37, 1)] {
+    let fresh = fresh(commands, start, capacities).0.numbers().to_vec();
+    let mut found = vec![fresh.clone(), fresh[..81].to_vec(), fresh[..51].to_vec(), Vec::new(), [&fresh[..], &[0]].concat()];
+    let mut with = |changes: &[(usize, u32)]| {
         let mut state = fresh.clone();
-        state[at] = value;
+        changes.iter().for_each(|&(at, value)| state[at] = value);
         found.push(state);
+    };
+    let lines = commands.len() as u32;
+    for line in (0..lines + 3).chain([u32::MAX]) {
+        for passes in [[0, 0], [1, 0], [3, 3], [4, 0], [5, 5], [6, 0], [5, 4], [1, 6], [8, 3], [9, 5], [0, 1], [u32::MAX, 0]] {
+            with(&[(source::LINE, line), (source::PASSES, passes[0]), (source::PASSES + 1, passes[1])]);
+        }
     }
-    for (at, value) in (0..=k.min(31)).flat_map(|at| [0, 1, 5, 6, u32::MAX].map(|value| (3 + at, value))) {
-        let mut state = fresh.clone();
-        state[at] = value;
-        found.push(state);
+    for (at, value) in [(source::STEPS, u32::MAX), (source::NUMBERS - 1, 1), (source::PASSES + 2, 1)] {
+        with(&[(at, value)]);
+    }
+    // capacities of variables below K, at K and past it
+    for at in (0..k + 2).chain([31]).filter(|&at| at < 32) {
+        let value = fresh[source::VALUES + at];
+        for capacity in [0, 1, value.saturating_sub(1), value, source::CAPACITY, source::CAPACITY + 1, 5_000, 65_536 + 5, u32::MAX] {
+            with(&[(at, capacity)]);
+        }
+        for value in [0, 1, 3, 4, 5, 6, 8, 9, u32::MAX] {
+            with(&[(source::VALUES + at, value)]);
+            with(&[(source::VALUES + at, value), (at, u32::MAX)]);
+        }
     }
     found
 }
 
-/// The fresh state and the fresh machine of a sample, with room for 5.
-pub fn fresh(commands: &[Command], start: &[u32]) -> (State, Machine) {
-    let ones: Vec<_> = start[..variables(commands).min(start.len())].iter().map(|&v| vec![b'1'; v as usize]).collect();
-    (State::fresh(5, values(start)), Machine::fresh(machine::REGISTERS, 5, &ones))
+/// The fresh state and the fresh machine of a sample on these registers; what does not fit there is cut.
+pub fn fresh(commands: &[Command], start: &[u32], capacities: &[u16; 64]) -> (State, Machine) {
+    let cut = start.iter().zip(capacities).map(|(&v, &c)| v.min(c.into()));
+    let start: Vec<u32> = cut.take(variables(commands)).collect();
+    let ones: Vec<_> = start.iter().map(|&v| vec![b'1'; v as usize]).collect();
+    (State::fresh(std::array::from_fn(|i| capacities[i].into()), values(&start)), Machine::fresh(capacities, &ones))
 }
 
 /// Sheets for a program of variables X0 to X3, good or not.

@@ -1,5 +1,5 @@
-//! The twin: document 01 and requests 1 to 3 of document 02 once more in plain Rust, separate code, written from documents 01 and 02 by
-//! the same hand as the definitions and after them. The library is held against it.
+//! The twin: document 01 and requests 1 to 3 and 5 of document 02 once more in plain Rust, separate code, written from documents 01 and 02
+//! by the same hand as the definitions and after them. The library is held against it.
 
 pub mod believed;
 pub mod cases;

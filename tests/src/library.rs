@@ -31,8 +31,8 @@ extern "C" {
         word_len: usize,
     ) -> u64;
     fn mudzkvopi_run_word(
-        registers: u32,
-        capacity: u32,
+        capacities: *const u16,
+        capacities_len: usize,
         store: *mut u8,
         store_len: usize,
         lengths: *mut u16,
@@ -44,8 +44,8 @@ extern "C" {
         budget: u32,
     ) -> u64;
     fn mudzkvopi_run_table(
-        registers: u32,
-        capacity: u32,
+        capacities: *const u16,
+        capacities_len: usize,
         store: *mut u8,
         store_len: usize,
         lengths: *mut u16,
@@ -58,7 +58,24 @@ extern "C" {
         operands_len: usize,
         budget: u32,
     ) -> u64;
-    fn mudzkvopi_value(registers: u32, capacity: u32, store: *const u8, store_len: usize, lengths: *const u16, lengths_len: usize) -> u64;
+    fn mudzkvopi_value(
+        capacities: *const u16,
+        capacities_len: usize,
+        store: *const u8,
+        store_len: usize,
+        lengths: *const u16,
+        lengths_len: usize,
+    ) -> u64;
+    fn mudzkvopi_report_on(
+        text: *const u8,
+        text_len: usize,
+        sheet: *const u8,
+        sheet_len: usize,
+        capacities: *const u16,
+        capacities_len: usize,
+        out: *mut u8,
+        out_len: usize,
+    ) -> u64;
 }
 
 fn unpack(packed: u64) -> Answer {
@@ -122,27 +139,31 @@ pub enum Code<'a> {
 }
 
 pub fn run(machine: &mut Machine, code: Code, budget: u32) -> Answer {
-    let Machine { registers, capacity, store, lengths, place, steps } = machine;
-    let (registers, capacity) = (*registers as u32, *capacity as u32);
+    let Machine { capacities, store, lengths, place, steps } = machine;
+    let (capacities, registers) = (capacities.as_ptr(), capacities.len());
     let (store, size, lengths, count) = (store.as_mut_ptr(), store.len(), lengths.as_mut_ptr(), lengths.len());
     unpack(unsafe {
         match code {
             Code::Word(word) => {
                 let (word, len) = (word.as_ptr(), word.len());
-                mudzkvopi_run_word(registers, capacity, store, size, lengths, count, place, steps, word, len, budget)
+                mudzkvopi_run_word(capacities, registers, store, size, lengths, count, place, steps, word, len, budget)
             }
             Code::Table(kinds, operands) => {
                 let (kinds, k, operands, o) = (kinds.as_ptr(), kinds.len(), operands.as_ptr(), operands.len());
-                mudzkvopi_run_table(registers, capacity, store, size, lengths, count, place, steps, kinds, k, operands, o, budget)
+                mudzkvopi_run_table(capacities, registers, store, size, lengths, count, place, steps, kinds, k, operands, o, budget)
             }
         }
     })
 }
 
 pub fn value(machine: &Machine) -> Answer {
-    let Machine { registers, capacity, store, lengths, .. } = machine;
-    let (registers, capacity) = (*registers as u32, *capacity as u32);
-    unpack(unsafe { mudzkvopi_value(registers, capacity, store.as_ptr(), store.len(), lengths.as_ptr(), lengths.len()) })
+    let Machine { capacities, store, lengths, .. } = machine;
+    unpack(unsafe { mudzkvopi_value(capacities.as_ptr(), capacities.len(), store.as_ptr(), store.len(), lengths.as_ptr(), lengths.len()) })
+}
+
+pub fn report_on(text: &[u8], sheet: &[u8], capacities: &[u16], out: &mut [u8]) -> Answer {
+    let (text, t, sheet, s) = (text.as_ptr(), text.len(), sheet.as_ptr(), sheet.len());
+    unpack(unsafe { mudzkvopi_report_on(text, t, sheet, s, capacities.as_ptr(), capacities.len(), out.as_mut_ptr(), out.len()) })
 }
 
 /// The run tool that RUN_TOOL names, and a folder for its files, which goes when this does.

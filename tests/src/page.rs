@@ -1,10 +1,13 @@
 //! The examples of docs/REFUSALS.md and docs/STUDENTS.md, read from the pages themselves, as the cases that try them.
 
 use crate::cases::{Case, Program, ANY, LOOP_ONLY, PLAIN, TIDY};
-use crate::machine::{Machine, REGISTERS};
+use crate::machine::{Machine, CAPACITY, REGISTERS};
 use crate::program::Setting;
 use crate::source::State;
-use crate::{Answer, Refusal};
+use crate::{Answer, End, Refusal};
+
+/// Room for every report.
+pub const REPORT_BYTES: usize = 147_467;
 
 /// A line of a block that is tried: what it is about, its texts and numbers in order, and the answer.
 #[derive(Debug)]
@@ -32,7 +35,8 @@ fn times(text: &str) -> (usize, &str) {
     (count.parse().expect("a count"), rest)
 }
 
-/// `untidy`, `length` and a value's, or the number and place of a refusal; what is said of the example may stand behind it.
+/// `untidy`, `length` and a value's, `halted` or `full` and the steps, or the number and place of a refusal; what is said of the example
+/// may stand behind it.
 fn answer(text: &str) -> Answer {
     let mut words = text.split_whitespace();
     let first = words.next().expect("an answer");
@@ -40,6 +44,8 @@ fn answer(text: &str) -> Answer {
     match first {
         "untidy" => Answer::Untidy,
         "length" => Answer::Done { high: 0, low: number() },
+        "halted" => Answer::Ended(End::Halted, number()),
+        "full" => Answer::Ended(End::Full, number()),
         rule => Answer::Refused(Refusal { number: rule.parse().expect("a rule"), place: number() as usize }),
     }
 }
@@ -99,7 +105,7 @@ fn of_program(setting: u32, program: Program) -> Vec<Case> {
         Case::Convert { setting, program: program.clone(), lent: 16_384 },
         Case::Translate { setting, form: PLAIN, program: program.clone(), lent: 600_000 },
         Case::Translate { setting, form: TIDY, program: program.clone(), lent: 600_000 },
-        Case::RunSource { setting, program, state: State::fresh(1, [0; 32]).numbers().to_vec(), budget: 1 },
+        Case::RunSource { setting, program, state: State::alike(1, [0; 32]).numbers().to_vec(), budget: 1 },
     ]
 }
 
@@ -120,29 +126,22 @@ fn entries(numbers: &[u32]) -> (Vec<u8>, Vec<u32>) {
 }
 
 impl Example {
-    /// Capacity, line, the values and, behind the `/`, the passes-left.
+    /// The capacities, behind a `/` line and values, and behind another the passes-left.
     fn state(&self) -> State {
-        let mut state = State::fresh(self.numbers[1][0], [0; 32]);
-        state.line = self.numbers[1][1];
-        for (to, from) in state.values.iter_mut().zip(&self.numbers[1][2..]) {
-            *to = *from;
-        }
-        for (to, from) in state.passes.iter_mut().zip(&self.numbers[2]) {
+        let start = |numbers: &[u32]| std::array::from_fn(|i| numbers.get(i).copied().unwrap_or(0));
+        let mut state = State::fresh(start(&self.numbers[1]), start(&self.numbers[2][1..]));
+        state.line = self.numbers[2][0];
+        for (to, from) in state.passes.iter_mut().zip(&self.numbers[3]) {
             *to = *from;
         }
         state
     }
 
-    /// Registers, capacity, the store and the lengths.
+    /// The capacities, the store and the lengths.
     fn machine(&self) -> Machine {
-        Machine {
-            registers: self.numbers[0][0] as usize,
-            capacity: self.numbers[0][1] as usize,
-            store: self.texts[0].clone(),
-            lengths: self.numbers[1..].concat().iter().map(|&n| n as u16).collect(),
-            place: 1,
-            steps: 0,
-        }
+        let small = |numbers: &[u32]| numbers.iter().map(|&n| n as u16).collect();
+        let (capacities, lengths) = (small(&self.numbers[0]), small(&self.numbers[1..].concat()));
+        Machine { capacities, store: self.texts[0].clone(), lengths, place: 1, steps: 0 }
     }
 
     /// The calls that must answer as the page says.
@@ -174,11 +173,11 @@ impl Example {
             "value" => vec![Case::Value { machine: self.machine() }],
             "word" => vec![
                 Case::ReadWord { word: text(), kinds: 8_192, operands: 8_192 },
-                Case::RunWord { word: text(), machine: Machine::fresh(REGISTERS, 1, &[]), budget: 1 },
+                Case::RunWord { word: text(), machine: Machine::alike(REGISTERS, 1, &[]), budget: 1 },
             ],
             "table" => {
                 let (kinds, operands) = entries(&numbers);
-                let machine = Machine::fresh(REGISTERS, 1, &[]);
+                let machine = Machine::alike(REGISTERS, 1, &[]);
                 vec![
                     Case::WriteWord { kinds: kinds.clone(), operands: operands.clone(), lent: 600_000 },
                     Case::RunTable { kinds, operands, machine, budget: 1 },
@@ -186,11 +185,21 @@ impl Example {
             }
             "entries" => {
                 let (kinds, operands) = entries(&self.numbers[1]);
-                let machine = Machine::fresh(self.numbers[0][0] as usize, 1, &[]);
+                let machine = Machine::alike(self.numbers[0][0] as usize, 1, &[]);
                 vec![Case::RunTable { kinds, operands, machine, budget: 1 }]
             }
-            "machine" => vec![Case::RunWord { word: text(), machine: Machine::fresh(numbers[0] as usize, 1, &[]), budget: 1 }],
-            "sheet" => vec![Case::Report { text: text(), sheet: self.texts[1].clone() }],
+            "machine" => vec![Case::RunWord { word: text(), machine: Machine::alike(numbers[0] as usize, 1, &[]), budget: 1 }],
+            "sheet" => {
+                let (sheet, capacities) = (self.texts[1].clone(), vec![CAPACITY as u16; REGISTERS]);
+                vec![
+                    Case::Report { text: text(), sheet: sheet.clone() },
+                    Case::ReportOn { text: text(), sheet, capacities, lent: REPORT_BYTES },
+                ]
+            }
+            "report" => {
+                let capacities = numbers.iter().map(|&n| n as u16).collect();
+                vec![Case::ReportOn { text: text(), sheet: self.texts[1].clone(), capacities, lent: REPORT_BYTES }]
+            }
             "translate" => translations(PLAIN, Program::Text(text()), numbers[0]),
             "tidy" => translations(TIDY, Program::Text(text()), numbers[0]),
             other => panic!("{other} is no kind of example"),

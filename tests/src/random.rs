@@ -258,21 +258,60 @@ impl Random {
         }
     }
 
+    /// Capacities of so many registers: all alike, each by chance, or one that is longer than the others.
+    pub fn capacities(&mut self, registers: usize) -> Vec<u16> {
+        let of_all = self.capacity() as u16;
+        let mut found = vec![of_all; registers];
+        match self.below(4) {
+            0 => {}
+            1 => found[self.below(registers)] = self.capacity() as u16,
+            2 => found[self.below(registers)] = self.pick(&[2, 30, 1_023, machine::CAPACITY as u16]),
+            _ => found.fill_with(|| self.capacity() as u16),
+        }
+        found
+    }
+
+    /// The same of 64 registers for a program of `k` variables. In half of them the registers behind the variables' are as long as the
+    /// longest of these; in the others one is shorter, which need not be one that the word names, or all are by chance.
+    pub fn capacities_for(&mut self, k: usize) -> Vec<u16> {
+        let mut found = self.capacities(machine::REGISTERS);
+        let (variables, helpers) = found.split_at_mut(k);
+        if self.once_in(2) {
+            variables.fill_with(|| 1 + self.below(12) as u16);
+        }
+        let largest = variables.iter().max().copied().unwrap_or(1);
+        match self.below(4) {
+            0 | 1 => helpers.iter_mut().for_each(|c| *c = largest.max(*c)),
+            2 => {
+                helpers.iter_mut().for_each(|c| *c = largest.max(*c));
+                helpers[self.below(4)] = 1.max(largest.saturating_sub(1 + self.below(3) as u16));
+            }
+            _ => helpers.fill_with(|| 1 + self.below(usize::from(largest)) as u16),
+        }
+        found
+    }
+
     /// A source state for a program; most pass rule 9.
     pub fn state(&mut self, commands: &[Command]) -> State {
-        let k = variables(commands);
-        let capacity = self.capacity();
+        let k = variables(commands).min(32);
+        let capacities = self.capacities(32);
         let mut values = [0; 32];
-        values[..k.min(32)].fill_with(|| self.amount(capacity) as u32);
-        let mut state = State::fresh(capacity as u32, values);
+        values.iter_mut().zip(&capacities).take(k).for_each(|(v, &c)| *v = self.amount(c.into()) as u32);
+        let mut state = State::fresh(std::array::from_fn(|i| capacities[i].into()), values);
         if self.once_in(6) {
             state.line = self.below(commands.len() + 3) as u32;
             for passes in &mut state.passes {
-                *passes = if self.once_in(2) { self.below(capacity + 2) as u32 } else { 0 };
+                let capacity = self.pick(&capacities[..k.max(1)]);
+                *passes = if self.once_in(2) { self.below(usize::from(capacity) + 2) as u32 } else { 0 };
             }
         }
-        if self.once_in(24) {
-            state.capacity = self.pick(&[0, 1, source::CAPACITY, source::CAPACITY + 1, u32::MAX]);
+        if self.once_in(2) {
+            let odd = [0, 5_000, u32::MAX];
+            state.capacities[k..].fill_with(|| self.pick(&odd));
+        }
+        if self.once_in(16) {
+            let at = self.below(k + 1).min(31);
+            state.capacities[at] = self.pick(&[0, 1, source::CAPACITY, source::CAPACITY + 1, u32::MAX]);
         }
         if self.once_in(24) {
             state.values[self.below(32)] = self.pick(&[1, source::CAPACITY, source::CAPACITY + 1, u32::MAX]);
@@ -308,18 +347,25 @@ impl Random {
     /// A machine; most pass rule 10.
     pub fn machine(&mut self) -> Machine {
         let registers = 1 + self.below(6);
-        let capacity = self.capacity();
-        let contents: Vec<_> = (0..registers).map(|_| self.symbols(capacity, 2)).collect();
-        let mut machine = Machine::fresh(registers, capacity, &contents);
+        let capacities = self.capacities(registers);
+        let contents: Vec<_> = capacities.iter().map(|&c| self.symbols(c.into(), 2)).collect();
+        let mut machine = Machine::fresh(&capacities, &contents);
         if self.once_in(6) {
             machine.place = self.pick(&[i32::MIN, i32::MIN + 1, -1, 0, 2, 3, 9, i32::MAX - 1, i32::MAX]);
         }
-        match self.below(24) {
-            0 => machine.registers += 1,
-            1 => machine.capacity = self.pick(&[0, 1025, usize::from(u16::MAX)]),
+        let at = self.below(registers);
+        match self.below(28) {
+            0 => machine.capacities.push(1),
+            1 => machine.capacities[at] = self.pick(&[0, 1025, u16::MAX]),
             2 => machine.store.push(0),
             3 => machine.lengths.push(0),
-            4 => machine.lengths[0] += 1,
+            4 => machine.lengths[at] += 1,
+            6 => machine.capacities.swap(0, at),
+            7 => {
+                // the places begin elsewhere, and are as many bytes in all
+                machine.capacities[0] += 1;
+                machine.capacities[at] -= 1;
+            }
             5 => {
                 let at = self.below(machine.store.len());
                 machine.store[at] = self.pick(b"1#2\0\xff");
@@ -335,10 +381,9 @@ impl Random {
         if machine.check().is_err() || self.once_in(4) {
             return machine;
         }
-        let kept = if self.once_in(2) { self.below(machine.registers) } else { 0 };
-        for at in (1..machine.registers).filter(|&at| at != kept) {
-            machine.store[at * machine.capacity..(at + 1) * machine.capacity].fill(0);
-            machine.lengths[at] = 0;
+        let kept = if self.once_in(2) { 1 + self.below(machine.registers()) } else { 1 };
+        for r in (2..=machine.registers()).filter(|&r| r != kept) {
+            machine.empty(r);
         }
         machine
     }
@@ -347,20 +392,25 @@ impl Random {
     pub fn translated(&mut self) -> (Vec<u8>, Machine) {
         let lines = self.below(14);
         let commands = self.program(Setting::Any, lines, 3);
-        let capacity = self.capacity();
+        let k = variables(&commands);
+        let capacities = self.capacities_for(k);
         let marks = usize::from(self.once_in(5));
-        let contents: Vec<_> = (0..variables(&commands)).map(|_| self.symbols(capacity, marks)).collect();
-        (spell(&translate(form_of(self.form()), &commands)), Machine::fresh(machine::REGISTERS, capacity, &contents))
+        let contents: Vec<_> = capacities[..k].iter().map(|&c| self.symbols(c.into(), marks)).collect();
+        (spell(&translate(form_of(self.form()), &commands)), Machine::fresh(&capacities, &contents))
     }
 
-    /// A sheet for a program of `k` variables, damaged or not.
-    pub fn sheet(&mut self, k: usize) -> Vec<u8> {
+    /// A sheet for a program of `k` variables on these registers, damaged or not.
+    pub fn sheet(&mut self, k: usize, capacities: &[u16]) -> Vec<u8> {
         let names = self.below(k.min(4) + 1);
         let first = self.below(k.max(1));
         let line: Vec<_> = (0..names).map(|n| format!("X{}", (first + n) % k.max(1))).collect();
         let mut sheet = line.join(" ") + "\n";
         for _ in 0..self.below(4) {
-            let values: Vec<_> = (0..names).map(|_| self.near(20, 1024).to_string()).collect();
+            let values = (0..names).map(|n| {
+                let capacity = capacities.get((first + n) % k.max(1)).copied().unwrap_or(machine::CAPACITY as u16);
+                self.near(20.min(usize::from(capacity) + 1), capacity.into()).to_string()
+            });
+            let values: Vec<_> = values.collect();
             sheet += &(values.join(" ") + "\n");
         }
         let mut sheet = self.respell(sheet.as_bytes());

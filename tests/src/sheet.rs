@@ -23,8 +23,8 @@ fn read_all(line: &[u8], one: fn(&[u8]) -> Front<'_>) -> Option<Vec<u64>> {
     fields(line).into_iter().map(whole).collect()
 }
 
-/// The rows of a sheet for a program of `variables` variables.
-pub fn read(sheet: &[u8], variables: usize, capacity: u64) -> Result<Rows, Refusal> {
+/// The rows of a sheet for a program of `variables` variables, each of which has its capacity.
+pub fn read(sheet: &[u8], variables: usize, capacities: &[u32; 32]) -> Result<Rows, Refusal> {
     if sheet.is_empty() || sheet.len() > BYTES || sheet[sheet.len() - 1] != b'\n' {
         return refuse(16, 0);
     }
@@ -41,11 +41,11 @@ pub fn read(sheet: &[u8], variables: usize, capacity: u64) -> Result<Rows, Refus
             Some(values) if values.len() == names.len() => values,
             _ => return refuse(16, place),
         };
-        if values.iter().any(|&v| v > capacity) {
-            return refuse(18, place);
-        }
         let mut row = [0; 32];
         for (n, v) in names.iter().zip(values) {
+            if v > u64::from(capacities[*n as usize]) {
+                return refuse(18, place);
+            }
             row[*n as usize] = v as u32;
         }
         rows.push(row);

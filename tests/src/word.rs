@@ -17,7 +17,8 @@ impl Instruction {
         usize::from(self.kind) + self.operand as usize
     }
 
-    fn register(self) -> Option<usize> {
+    /// The register that an append or cases names.
+    pub fn register(self) -> Option<usize> {
         matches!(self.kind, 1 | 2 | 5).then_some(self.operand as usize)
     }
 }

@@ -19,10 +19,10 @@ type Both = (String, (End, u32), (End, u32, i32), String);
 fn both(text: &str, capacity: u32, start: &[u32]) -> Both {
     let commands = read(Setting::Any, text.as_bytes()).expect("an accepted program");
     let table = translate(Form::Plain, &commands);
-    let mut state = State::fresh(capacity, values(start));
+    let mut state = State::alike(capacity, values(start));
     let source = run(&commands, &mut state, 1000);
     let ones: Vec<_> = values(start)[..variables(&commands)].iter().map(|&v| vec![b'1'; v as usize]).collect();
-    let mut machine = Machine::fresh(64, capacity as usize, &ones);
+    let mut machine = Machine::alike(64, capacity as usize, &ones);
     let (end, steps) = machine.run(&table, 1000);
     let first = String::from_utf8(machine.register(1).to_vec()).unwrap();
     (String::from_utf8(spell(&table)).unwrap(), (source.end, source.steps), (end, steps, machine.place), first)
@@ -31,7 +31,7 @@ fn both(text: &str, capacity: u32, start: &[u32]) -> Both {
 fn word(text: &str, registers: &[&str]) -> (End, u32, i32, String) {
     let table = word::read(text.as_bytes()).expect("an accepted word");
     let contents: Vec<_> = registers.iter().map(|r| r.as_bytes().to_vec()).collect();
-    let mut machine = Machine::fresh(64, 1024, &contents);
+    let mut machine = Machine::alike(64, 1024, &contents);
     let (end, steps) = machine.run(&table, 1000);
     (end, steps, machine.place, String::from_utf8(machine.register(1).to_vec()).unwrap())
 }

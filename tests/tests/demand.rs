@@ -47,8 +47,8 @@ fn source_and_word() {
         let mut values = [0; 32];
         values[..k].fill_with(|| random.below(capacity + 1) as u32);
         let ones: Vec<_> = values[..k].iter().map(|&v| vec![b'1'; v as usize]).collect();
-        let mut state = State::fresh(capacity as u32, values);
-        let mut machine = Machine::fresh(64, capacity, &ones);
+        let mut state = State::alike(capacity as u32, values);
+        let mut machine = Machine::alike(64, capacity, &ones);
         let source = run(&commands, &mut state, 3_000);
         let (end, steps) = machine.run(&translated(ANY, PLAIN, &commands), 300_000);
         assert_ne!(end, End::Strayed);
@@ -86,8 +86,8 @@ fn loop_programs_halt() {
         let mut values = [0; 32];
         values[..k].fill_with(|| random.below(3) as u32);
         let ones: Vec<_> = values[..k].iter().map(|&v| vec![b'1'; v as usize]).collect();
-        let mut state = State::fresh(MOST, values);
-        let mut machine = Machine::fresh(k + 17, MOST as usize, &ones);
+        let mut state = State::alike(MOST, values);
+        let mut machine = Machine::alike(k + 17, MOST as usize, &ones);
         let source = run(&commands, &mut state, 1_000_000);
         if source.end != End::Halted {
             assert!(state.values.iter().chain(&state.passes).any(|&n| n > 100), "{commands:?} from {values:?} goes on, and does not grow");
@@ -116,8 +116,8 @@ fn tidy_words() {
         let mut values = [0; 32];
         values[..k].fill_with(|| random.below(capacity.min(40) + 1) as u32);
         let ones: Vec<_> = values[..k].iter().map(|&v| vec![b'1'; v as usize]).collect();
-        let mut plain = Machine::fresh(k + 17, capacity, &ones);
-        let (mut tidy, mut state) = (plain.clone(), State::fresh(capacity as u32, values));
+        let mut plain = Machine::alike(k + 17, capacity, &ones);
+        let (mut tidy, mut state) = (plain.clone(), State::alike(capacity as u32, values));
         let source = run(&commands, &mut state, 3_000);
         let (end, steps) = plain.run(&translated(ANY, PLAIN, &commands), 300_000);
         if source.end == End::Spent || end == End::Spent {

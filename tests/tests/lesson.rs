@@ -78,7 +78,7 @@ fn rules_1_to_4_come_first() {
 /// 20 comes before 19 and 9, and then nothing lent has changed. Every number but 0 counts as LOOP-only.
 #[test]
 fn before_19_and_9() {
-    let state = State::fresh(0, [0; 32]).numbers().to_vec();
+    let state = State::alike(0, [0; 32]).numbers().to_vec();
     let texts = || Program::Text(text_of(&["while X0 != 0", "endwhile X0 != 0"]));
     let lists = || Program::List(vec![6, 0, 0, 7, 0, 0]);
     let of_program = |setting: u32, program: Program| {

@@ -2,11 +2,12 @@
 
 use std::fs;
 use std::path::Path;
+use twin::machine::Machine;
 use twin::page::{self, Example};
 use twin::program::{read, Setting};
 use twin::translation::{translate, Form};
 use twin::word::spell;
-use twin::{believed, tool, Answer, Refusal};
+use twin::{believed, tool, Answer, End, Refusal};
 
 fn at_root(name: &str) -> std::path::PathBuf {
     Path::new(env!("CARGO_MANIFEST_DIR")).join("..").join(name)
@@ -20,7 +21,7 @@ const REFUSED_19: Answer = Answer::Refused(Refusal { number: 19, place: 0 });
 
 fn examples() -> Vec<Example> {
     let mut examples = page::examples(&page("docs/REFUSALS.md"));
-    for rule in 1..=20 {
+    for rule in 1..=21 {
         let of_rule = |e: &Example| matches!(e.answer, Answer::Refused(Refusal { number, .. }) if number == rule);
         assert!(examples.iter().any(of_rule), "the page has an example of {rule}");
     }
@@ -111,6 +112,33 @@ fn decoded_clear() {
     let adder = read(Setting::Any, b"loop X1\nX0 <- X0 + 1\nendloop X1\n").expect("an accepted program");
     let clear = spell(&translate(Form::Tidy, &adder)[14..]);
     assert_eq!(decoded("## Tidy words", "| 15 |").as_bytes(), clear);
+}
+
+/// The runs on registers of unequal length that COURSE.md works by hand.
+#[test]
+fn unequal_registers() {
+    let course = page("docs/COURSE.md");
+    let (_, section) = course.split_once("## Registers of unequal length").expect("the section");
+    let (section, _) = section.split_once("\n## ").expect("another section");
+    let section = section.split_whitespace().collect::<Vec<_>>().join(" ");
+    let tally = "loop X1\nX0 <- X0 + 1\nendloop X1\nX2 <- X0\n";
+    let rows: [(&str, &str, &[u16]); 3] =
+        [("X0 <- X1\n", "X0 X1\n2 4\n", &[3, 5, 5]), ("X0 <- X1\n", "X0 X1\n2 3\n", &[3, 5, 5]), (tally, "X1\n3\n", &[5, 5, 2, 5, 5])];
+    for (text, sheet, capacities) in rows {
+        let capacities = [capacities, &vec![1; 64 - capacities.len()]].concat();
+        let printed = tool::report_on(text.as_bytes(), sheet.as_bytes(), &capacities);
+        let line = printed.lines().last().unwrap_or_default();
+        assert!(section.contains(&format!("`{line}`")), "{line}");
+    }
+    // the steps of the first, as its table has them
+    let table = column("## Registers of unequal length", "| 1 |", 3);
+    let steps = table.iter().map(|cell| cell.rsplit(' ').next().and_then(|n| n.parse::<u32>().ok()).expect("steps"));
+    assert_eq!(steps.sum::<u32>(), 20);
+    // the word that is full alone
+    let word = translate(Form::Plain, &read(Setting::Any, b"X0 <- X1\n").expect("an accepted program"));
+    let mut machine = Machine::fresh(&[5, 5, 2], &[vec![], b"111".to_vec()]);
+    assert_eq!(machine.run(&word, 1_000), (End::Full, 13));
+    assert_eq!((word.len(), machine.lengths), (13, vec![3, 0, 2]));
 }
 
 /// The students' page has every spelling that the program's reader takes.

@@ -27,7 +27,7 @@ fn added(text: &str) -> String {
 /// The end and the steps of a program's word, and its value: none if it is untidy.
 fn ran(form: Form, text: &str, start: &[usize]) -> (End, u32, Option<usize>) {
     let ones: Vec<_> = start.iter().map(|&v| vec![b'1'; v]).collect();
-    let mut machine = Machine::fresh(64, 1024, &ones);
+    let mut machine = Machine::alike(64, 1024, &ones);
     let (end, steps) = machine.run(&translate(form, &commands(text)), 1_000_000);
     (end, steps, machine.value().map(|symbols| symbols.len()))
 }
@@ -78,7 +78,7 @@ fn the_longest() {
 fn every_register_but_the_first() {
     let value = |registers: usize, contents: &[&str]| {
         let contents: Vec<_> = contents.iter().map(|c| c.as_bytes().to_vec()).collect();
-        Machine::fresh(registers, 4, &contents).value().map(|symbols| symbols.to_vec())
+        Machine::alike(registers, 4, &contents).value().map(|symbols| symbols.to_vec())
     };
     assert_eq!(value(1, &[""]), Some(b"".to_vec()));
     assert_eq!(value(1, &["1#1"]), Some(b"1#1".to_vec()));
@@ -100,7 +100,7 @@ fn every_register_but_the_first() {
 fn other_words() {
     let ran = |text: &str, contents: &[&str]| {
         let contents: Vec<_> = contents.iter().map(|c| c.as_bytes().to_vec()).collect();
-        let mut machine = Machine::fresh(3, 9, &contents);
+        let mut machine = Machine::alike(3, 9, &contents);
         let (end, _) = machine.run(&word::read(text.as_bytes()).expect("a word"), 100);
         (end, machine.value().map(|symbols| String::from_utf8(symbols.to_vec()).expect("ASCII")))
     };

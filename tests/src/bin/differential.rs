@@ -14,13 +14,13 @@ use twin::random::Random;
 use twin::spellings::every_choice;
 use twin::translation::{translate, Form};
 use twin::word::{self, spell, Instruction};
-use twin::{edges, source, Answer, End};
+use twin::{edges, source, tool, Answer, End};
 
 /// A run by chance that hasn't ended after so many steps has a budget of at most that.
 const LONGEST: u32 = 20_000;
 
 /// The answers of each call, every one of which must come `LEAST` times.
-const ANSWERS: [(&str, &str); 12] = [
+const ANSWERS: [(&str, &str); 13] = [
     ("read a text", "done 1 2 3 4 5 20 6 7 8 19"),
     ("write a list", "done 3 4 5 20 6 7 8 19"),
     ("translate a text", "done 1 2 3 4 5 20 6 7 8 19"),
@@ -33,6 +33,7 @@ const ANSWERS: [(&str, &str); 12] = [
     ("run a table", "halted strayed spent full 10 11 13 14 15"),
     ("value", "done untidy 10"),
     ("the run tool", "done 1 2 3 4 5 6 7 8 16 17 18 19"),
+    ("report on registers", "done 1 2 3 4 5 6 7 8 10 21 16 17 18 19"),
 ];
 const LEAST: u64 = 5;
 
@@ -123,7 +124,7 @@ fn program_edges(tally: &mut Tally, setting: u32, program: &Program, longest: us
     }
     translation_edges(tally, setting, program, longest);
     for capacity in [5, 0] {
-        let state = source::State::fresh(capacity, [0; 32]).numbers().to_vec();
+        let state = source::State::alike(capacity, [0; 32]).numbers().to_vec();
         tally.hold(Case::RunSource { setting, program: program.clone(), state, budget: 100 });
     }
 }
@@ -209,17 +210,17 @@ fn word_edges(tally: &mut Tally, table: &[Instruction], machine: &Machine) {
     }
 }
 
-/// A sample program from every state at a limit; its source with every budget up to past the end, and every count of steps near the
-/// largest; and its word in both forms.
-fn sample_edges(tally: &mut Tally, text: &[u8], start: &[u32]) {
+/// A sample program on these registers from every state at a limit; its source with every budget up to past the end, and every count of
+/// steps near the largest; and its word in both forms.
+fn sample_edges(tally: &mut Tally, text: &[u8], start: &[u32], capacities: &[u16; 64]) {
     let commands = read(Setting::Any, text).expect("a sample is accepted");
-    for state in edges::states(&commands, start) {
+    for state in edges::states(&commands, start, capacities) {
         for setting in [ANY, LOOP_ONLY] {
             tally.hold(Case::RunSource { setting, program: Program::Text(text.into()), state: state.clone(), budget: 9 });
             tally.hold(Case::RunSource { setting, program: Program::List(list(&commands)), state: state.clone(), budget: 9 });
         }
     }
-    let (state, machine) = edges::fresh(&commands, start);
+    let (state, machine) = edges::fresh(&commands, start, capacities);
     let ends = source::run(&commands, &mut state.clone(), 200).steps;
     for n in 0..=ends + 2 {
         for (steps, budget) in [(0, n), (u32::MAX - n, 200), (u32::MAX - n, ends), (u32::MAX - ends, n)] {
@@ -232,13 +233,58 @@ fn sample_edges(tally: &mut Tally, text: &[u8], start: &[u32]) {
     }
 }
 
+/// A report on registers, with outputs of its length, of one less and of one more, and with none.
+fn reports(tally: &mut Tally, text: &[u8], sheet: &[u8], capacities: &[u16]) {
+    let length = tool::report_on(text, sheet, capacities).len();
+    for lent in [0, length - 1, length, length + 1] {
+        tally.hold(Case::ReportOn { text: text.to_vec(), sheet: sheet.to_vec(), capacities: capacities.to_vec(), lent });
+    }
+}
+
+/// Reports on registers: each number of them at a limit, each of them shorter or longer by one or at a limit, under samples, sheets and
+/// programs that other rules turn down.
+fn report_edges(tally: &mut Tally) {
+    for (text, start) in edges::SAMPLES {
+        let names: Vec<_> = (0..start.len()).map(|i| format!("X{i}")).collect();
+        let values: Vec<_> = start.iter().map(|v| v.to_string()).collect();
+        let sheet = format!("{}\n{}\n{}\n", names.join(" "), values.join(" "), vec!["2"; start.len()].join(" "));
+        for lists in edges::CAPACITIES.into_iter().flat_map(|capacities| edges::beside_capacities(&capacities)) {
+            reports(tally, text, sheet.as_bytes(), &lists);
+        }
+    }
+    for sheet in edges::sheets() {
+        for text in [&b"loop X1\nX0 <- X3\nendloop X1\n"[..], b"", b"loop X1\n"] {
+            for (x1, x3, helpers) in [(1_024, 1_024, 1_024), (1, 1_024, 1_024), (3, 1, 3), (1_023, 2, 1_023), (2, 2, 1), (0, 1, 5)] {
+                let mut capacities = [helpers; 64];
+                (capacities[1], capacities[3]) = (x1, x3);
+                reports(tally, text, &sheet, &capacities);
+            }
+        }
+    }
+    for commands in edges::long_words() {
+        for sheet in ["\n", "X31 X30\n5 4\n", "X32\n", "X31\n6\n", "X30\n5\n", ""] {
+            for (x30, scratch) in [(5, 5), (4, 5), (5, 4), (0, 5), (5, 0)] {
+                let mut capacities = [5; 64];
+                (capacities[30], capacities[32]) = (x30, scratch);
+                reports(tally, &write(&commands), sheet.as_bytes(), &capacities);
+            }
+        }
+    }
+    for (text, sheet) in edges::budgets() {
+        let mut capacities = [1_024; 64];
+        capacities[1..3].fill(400);
+        reports(tally, text.as_bytes(), sheet.as_bytes(), &capacities);
+    }
+}
+
 /// All cases at the limits.
 fn at_limits(tally: &mut Tally) {
     for text in edges::texts() {
         for setting in [ANY, LOOP_ONLY] {
             program_edges(tally, setting, &Program::Text(text.clone()), 600_000);
         }
-        tally.hold(Case::Report { text, sheet: b"\n\n".to_vec() });
+        tally.hold(Case::Report { text: text.clone(), sheet: b"\n\n".to_vec() });
+        reports(tally, &text, b"\n\n", &[1_024; 64]);
     }
     for list in edges::lists() {
         for setting in [ANY, LOOP_ONLY] {
@@ -249,25 +295,29 @@ fn at_limits(tally: &mut Tally) {
     form_edges(tally);
     spelling_edges(tally);
     for (text, start) in edges::SAMPLES {
-        sample_edges(tally, text, start);
+        for capacities in edges::CAPACITIES {
+            sample_edges(tally, text, start, &capacities);
+        }
     }
+    report_edges(tally);
     for word in edges::words() {
         let count = word::read(&word).map_or(9, |t| t.len());
         for (kinds, operands) in [(count - 1, count), (count, count - 1), (count, count), (8_192, 8_200)] {
             tally.hold(Case::ReadWord { word: word.clone(), kinds, operands });
         }
         for (registers, budget) in [(64, 99), (1, 99), (63, 0)] {
-            tally.hold(Case::RunWord { word: word.clone(), machine: Machine::fresh(registers, 2, &[b"#".to_vec()]), budget });
+            tally.hold(Case::RunWord { word: word.clone(), machine: Machine::alike(registers, 2, &[b"#".to_vec()]), budget });
         }
     }
     for (kinds, operands) in edges::tables() {
-        let length = kinds.iter().map(|&kind| kind as usize).sum::<usize>() + operands.iter().map(|&operand| operand as usize).sum::<usize>();
+        let length =
+            kinds.iter().map(|&kind| kind as usize).sum::<usize>() + operands.iter().map(|&operand| operand as usize).sum::<usize>();
         let around = [length.saturating_sub(1), length, length + 1];
         for lent in [0, 83, 599_999, 600_000].into_iter().chain(around.into_iter().filter(|&lent| lent < 600_000)) {
             tally.hold(Case::WriteWord { kinds: kinds.clone(), operands: operands.clone(), lent });
         }
         for (registers, budget) in [(64, 99), (1, 99), (63, 0)] {
-            let machine = Machine::fresh(registers, 2, &[b"#".to_vec()]);
+            let machine = Machine::alike(registers, 2, &[b"#".to_vec()]);
             tally.hold(Case::RunTable { kinds: kinds.clone(), operands: operands.clone(), machine, budget });
         }
     }
@@ -372,7 +422,7 @@ fn written_case(random: &mut Random) -> Case {
 
 fn table_case(random: &mut Random) -> Case {
     let machine = random.machine();
-    let named = machine.registers + usize::from(random.once_in(6));
+    let named = machine.registers() + usize::from(random.once_in(6));
     let (kinds, operands, _) = table_by_chance(random, named);
     let table: Vec<_> = kinds.iter().zip(&operands).map(|(&kind, &operand)| Instruction { kind, operand }).collect();
     let accepted = (kinds.len() == operands.len() && machine.accept_table(&table).is_ok()).then_some(table);
@@ -398,7 +448,7 @@ fn program_cases(tally: &mut Tally, random: &mut Random) {
 fn by_chance(tally: &mut Tally, random: &mut Random) {
     program_cases(tally, random);
     let machine = random.machine();
-    let named = machine.registers + usize::from(random.once_in(6));
+    let named = machine.registers() + usize::from(random.once_in(6));
     let word = random.word(named);
     let count = word::read(&word).map_or(3, |t| t.len());
     tally.hold(Case::ReadWord { word: word.clone(), kinds: lent(random, count), operands: lent(random, count) });
@@ -414,8 +464,26 @@ fn report_case(random: &mut Random) -> Case {
     let lines = random.below(9);
     let small = write(&random.program(Setting::Any, lines, 3));
     let text = if random.once_in(4) { random.text(Setting::Any) } else { random.respell(&small) };
-    let sheet = random.sheet(read(Setting::Any, &text).map_or(2, |c| variables(&c)));
+    let sheet = random.sheet(read(Setting::Any, &text).map_or(2, |c| variables(&c)), &[]);
     Case::Report { text, sheet }
+}
+
+/// A report on registers of which one may be too few, too many or outside the limits.
+fn report_on_case(random: &mut Random) -> Case {
+    let lines = random.below(9);
+    let small = write(&random.program(Setting::Any, lines, 3));
+    let text = if random.once_in(8) { random.text(Setting::Any) } else { random.respell(&small) };
+    let k = read(Setting::Any, &text).map_or(2, |c| variables(&c));
+    let mut capacities = random.capacities_for(k);
+    match random.below(24) {
+        0 => drop(capacities.pop()),
+        1 => capacities.push(1),
+        2 => capacities[random.below(64)] = random.pick(&[0, 1_025, u16::MAX]),
+        _ => {}
+    }
+    let sheet = random.sheet(k, &capacities);
+    let lent = lent(random, tool::report_on(&text, &sheet, &capacities).len());
+    Case::ReportOn { text, sheet, capacities, lent }
 }
 
 fn main() {
@@ -433,6 +501,9 @@ fn main() {
         by_chance(&mut tally, &mut random);
         if round % 10 == 0 {
             tally.hold(report_case(&mut random));
+        }
+        if round % 4 == 0 {
+            tally.hold(report_on_case(&mut random));
         }
     }
     if !tally.covers() {

@@ -34,7 +34,8 @@ fn micros(time: Duration) -> String {
 fn speed() -> Vec<Work> {
     let largest = nested(16, 480);
     let moving = moving_word();
-    let first = |length: usize| Machine::fresh(2, 1024, &[vec![b'1'; length]]);
+    let unequal = Machine::fresh(&[60, 1024], &[vec![b'1'; 60]]);
+    let first = |length: usize| Machine::alike(2, 1024, &[vec![b'1'; length]]);
     vec![
         reading("read 6 lines", 6, MULTIPLY),
         reading("read 512 lines", 512, &largest),
@@ -53,10 +54,11 @@ fn speed() -> Vec<Work> {
         running_word("word run, 100,000 steps, 1,000 symbols", 0, &moving, &first(1000), false),
         running_word("word run, 100,000 steps, 60 symbols", 0, &moving, &first(60), false),
         running_word("word run, 100,000 steps, 6 symbols", 0, &moving, &first(6), false),
-        running_word("word run, 1 step, 64 registers of 1,024", 0, b"1###", &Machine::fresh(64, 1024, &[]), false),
+        running_word("word run, 1 step, 64 registers of 1,024", 0, b"1###", &Machine::alike(64, 1024, &[]), false),
+        running_word("word run, 100,000 steps, 60 symbols, unequal", 0, &moving, &unequal, false),
         running_word("table run, 100,000 steps, 60 symbols", 0, &moving, &first(60), true),
-        running_word("table run, 1 step, 64 registers of 1,024", 0, b"1###", &Machine::fresh(64, 1024, &[]), true),
-        valuing("value, 64 registers of 1,024", &Machine::fresh(64, 1024, &[vec![b'1'; 1024]])),
+        running_word("table run, 1 step, 64 registers of 1,024", 0, b"1###", &Machine::alike(64, 1024, &[]), true),
+        valuing("value, 64 registers of 1,024", &Machine::alike(64, 1024, &[vec![b'1'; 1024]])),
     ]
 }
 
@@ -84,7 +86,7 @@ fn growths() -> (Vec<Growth>, Vec<Work>) {
     let translated = [10_000, 20_000, 50_000, 100_000, 200_000, 300_000];
     let deep = |depth: usize| nested(depth, 512 - 2 * depth);
     let translate = |text: Vec<u8>| translating("", word_of(&text).len(), PLAIN, as_text(&text));
-    let machine = Machine::fresh(64, 16, &[]);
+    let machine = Machine::alike(64, 16, &[]);
     let (mut growths, mut works) = (Vec::new(), Vec::new());
     let mut growth = |name, by, each, sizes: &[usize], work: &dyn Fn(usize) -> Work| {
         growths.push(Growth { name, by, each, sizes: sizes.to_vec() });

@@ -114,7 +114,7 @@ pub fn translating(name: &str, size: usize, form: u32, program: Program) -> Work
 pub fn running_source(name: &str, program: Program, values: &[u32]) -> Work {
     let mut start = [0; 32];
     start[..values.len()].copy_from_slice(values);
-    let fresh = State::fresh(1024, start);
+    let fresh = State::alike(1024, start);
     let (numbers, again) = (fresh.numbers(), program.clone());
     Work::new(
         name,
