@@ -17,17 +17,17 @@ use Rattle.tidy.specs.Forms as F
 use Rattle.readings.specs.Example as E
 use Rattle.readings.specs.Example.{Example, Holds}
 use Rattle.readings.specs.Results.{results, outputs, programs, paid, ends, loops, word-ends, word-steps, values, forms, reports}
-use Rattle.readings.specs.Results.{printed-runs, notations, digit-texts, spelled-names, primed-runs, unequal, uneven-runs, own-room}
-use Rattle.readings.specs.Results.{budgets}
+use Rattle.readings.specs.Results.{printed-runs, printed-on, notations, digit-texts, spelled-names, primed-runs, unequal}
+use Rattle.readings.specs.Results.{uneven-runs, own-room, budgets}
 use Rattle.readings.proofs.BudgetsHold.{budgets-hold}
 
 abbrev Hold : List Example → Type 0
 Hold = EachOf Holds
 
 pub results-hold : EachOf (EachOf Holds) results
-unfolding results outputs programs paid ends loops word-ends word-steps values forms reports printed-runs notations digit-texts
-    spelled-names primed-runs unequal uneven-runs own-room budgets E.show-source E.show-word E.show-form E.show-ends B.show B.show-both
-    B.show-word put
+unfolding results outputs programs paid ends loops word-ends word-steps values forms reports printed-runs printed-on notations
+    digit-texts spelled-names primed-runs unequal uneven-runs own-room budgets E.show-source E.show-word E.show-form E.show-ends B.show
+    B.show-both B.show-word put
     T.following T.same T.digits T.value-after T.numeral T.primes T.index T.name T.in-digits T.split-lines T.ends-in-LF T.split-blanks
     P.around P.assigns P.command D.rule-1 D.rule-2 D.rule-3 D.lines-fault-under D.program-fault-under D.text-fault-under D.read-text-under
     P.listed P.command-of P.commands D.read-list-under W.entries D.rule-11 D.first-failing D.rule-12 D.first-along D.rule-13 D.rule-14
@@ -53,9 +53,10 @@ results-hold =
     let l : Hold forms = (refl, (refl, (refl, (refl, (refl, (refl, (refl, tt))))))) in
     let m : Hold reports = (refl, (refl, (refl, (refl, (refl, (refl, (refl, (refl, tt)))))))) in
     let n : Hold printed-runs = (refl, (refl, (refl, tt))) in
+    let n′ : Hold printed-on = (refl, (refl, (refl, (refl, (refl, (refl, (refl, (refl, (refl, tt))))))))) in
     let o : Hold primed-runs = (refl, (refl, (refl, (refl, (refl, (refl, tt)))))) in
     let p : Hold unequal = (refl, (refl, (refl, (refl, (refl, (refl, tt)))))) in
     let q : Hold budgets = budgets-hold in
     let r : Hold uneven-runs = (refl, (refl, (refl, (refl, (refl, tt))))) in
     let s : Hold own-room = (refl, (refl, (refl, (refl, (refl, tt))))) in
-    (a, (b, (c, (d, (e, (f, (g, (h, (i, (j, (k, (l, (m, (n, (o, (p, (q, (r, (s, tt)))))))))))))))))))
+    (a, (b, (c, (d, (e, (f, (g, (h, (i, (j, (k, (l, (m, (n, (n′, (o, (p, (q, (r, (s, tt))))))))))))))))))))

@@ -21,7 +21,7 @@ use Rattle.theory.specs.TurnedDown.{Answer, done, refused, mapped, lend}
 use Rattle.theory.specs.TurnedDown.{lent-after, instructions, word-entries, sheet-fault-for, rule-9, rule-10, rule-21}
 use Rattle.theory.specs.TurnedDown.{read-text-under, read-list-under}
 use Rattle.theory.specs.TurnedDown.{read-text, read-list, read-word, read-table, read-word-for, read-table-for, run-program, run-on}
-use Rattle.theory.specs.RunTool.{tool-capacities, report}
+use Rattle.theory.specs.RunTool.{tool-capacities, report, report-on}
 use Rattle.theory.specs.declared.Refusal.{Refusal}
 use Rattle.theory.specs.declared.Setting.{Setting}
 use Rattle.theory.specs.declared.Setting.the-variants.{Any, LoopOnly}
@@ -98,6 +98,8 @@ pub data Example : Type 0 where
   spelled : Bytes → String → Example
   -- the run tool: program, sheet and what it prints
   prints : Bytes → Bytes → String → Example
+  -- a report on registers of these capacities
+  prints-on : List ℕ → Bytes → Bytes → String → Example
 
 abbrev pub refusal : {A : Type 0} → Answer A → Option Refusal
 refusal (done a) = none
@@ -160,6 +162,7 @@ Holds (form f t v e) = mapped (show-form f v) (read-text (bytes t)) ≡ done e
 Holds (numbers l expected) = l ≡ expected
 Holds (spelled b expected) = b ≡ bytes expected
 Holds (prints t s out) = report t s ≡ bytes out
+Holds (prints-on l t s out) = report-on l t s ≡ bytes out
 
 -- n times the same
 abbrev pub times : ℕ → Bytes → Bytes

@@ -21,7 +21,7 @@ use Rattle.bench.specs.Table as T
 use Rattle.tidy.specs.Forms.{tidy-charges}
 use Rattle.tidy.specs.declared.Form.the-variants.{Plain, Tidy}
 use Rattle.readings.specs.Example.{Example, output, fills, reads, counts, writes, digits, row, charges}
-use Rattle.readings.specs.Example.{runs, word-runs, together, value, form, numbers, spelled, prints}
+use Rattle.readings.specs.Example.{runs, word-runs, together, value, form, numbers, spelled, prints, prints-on}
 use Rattle.readings.specs.Example.{SourceShown, WordShown, FormShown, passes, has, entry, state, fresh, nested, loop-in-while}
 use Rattle.readings.specs.Example.{unlike, uneven, register, several}
 
@@ -352,6 +352,21 @@ printed-runs =
     ∷ prints (bytes "X0 <- X1\n") (bytes "X1 X0\n7 2\n") "source-end source-steps word-end word-steps X0\nhalted 1 halted 60 7\n"
     ∷ []
 
+-- A report on other registers: its order, and the runs. X0 has the first capacity, X1 the second, and the scratch register the third
+unfoldable pub printed-on : List Example
+printed-on =
+    prints-on (replicate 63 5) (bytes "X0 <- X1\n") [] "refused 10 0\n"
+    ∷ prints-on (replicate 65 5) (bytes "X0 <- X1\n") [] "refused 10 0\n"
+    ∷ prints-on (0 ∷ replicate 63 5) (bytes "X0 <- X1\n") [] "refused 10 0\n"
+    ∷ prints-on (1025 ∷ replicate 63 5) (bytes "X0 <- X1\n") [] "refused 10 0\n"  -- 10 before 21
+    ∷ prints-on [] (bytes "loop X0\n") [] "refused 8 1\n"  -- 8 before 10
+    ∷ prints-on (5 ∷ 5 ∷ 4 ∷ replicate 61 5) (bytes "X0 <- X1\n") [] "refused 21 0\n"  -- 21 before 16
+    ∷ prints-on (replicate 64 5) (bytes "X0 <- X1\n") [] "refused 16 0\n"
+    ∷ prints-on (3 ∷ replicate 63 5) (bytes "X0 <- X1\n") (bytes "X0\n4\n") "refused 18 2\n"
+    ∷ prints-on (3 ∷ replicate 63 5) (bytes "X0 <- X1\n") (bytes "X0 X1\n2 4\n2 3\n")
+    "source-end source-steps word-end word-steps X0\nfull 0 full 20 2\nhalted 1 halted 32 3\n"
+    ∷ []
+
 -- The same of programs and sheets with primes
 unfoldable pub primed-runs : List Example
 primed-runs =
@@ -386,4 +401,4 @@ budgets =
 unfoldable pub results : List (List Example)
 results =
     outputs ∷ programs ∷ paid ∷ notations ∷ digit-texts ∷ spelled-names ∷ ends ∷ loops ∷ word-ends ∷ word-steps ∷ values ∷ forms ∷ reports
-    ∷ printed-runs ∷ primed-runs ∷ unequal ∷ budgets ∷ uneven-runs ∷ own-room ∷ []
+    ∷ printed-runs ∷ printed-on ∷ primed-runs ∷ unequal ∷ budgets ∷ uneven-runs ∷ own-room ∷ []
