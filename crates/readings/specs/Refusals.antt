@@ -383,6 +383,8 @@ roomy =
     ∷ fitting "X0 <- X1\n" (5 ∷ 9 ∷ 5 ∷ []) (refuse 21 0)
     ∷ fitting "X0 <- X1\n" (9 ∷ 5 ∷ 5 ∷ []) (refuse 21 0)
     ∷ fitting "X0 <- X1\n" (5 ∷ 9 ∷ 9 ∷ []) passes  -- a copy uses no counter
+    ∷ fitting "X0 <- X1\n" (9 ∷ 5 ∷ 9 ∷ []) passes  -- a variable may be short
+    ∷ fitting "loop X0\nendloop X0\n" (5 ∷ 9 ∷ 5 ∷ []) passes  -- scratch is no variable
     ∷ fitting "X2 <- X0\n" (5 ∷ 9 ∷ 5 ∷ 5 ∷ []) (refuse 21 0)  -- a variable that no line names
     ∷ fitting "X0 <- X0\nX0 <- X0 + 1\nX0 <- 0\n" (5 ∷ 1 ∷ []) passes  -- no scratch
     ∷ fitting "while X0 != 0\nendwhile X0 != 0\n" (5 ∷ 1 ∷ []) passes
