@@ -6,7 +6,7 @@ use native.Mathlib.Omega.{arith}
 use lib.ListN.{length, take, set, getD, replicate, length-replicate, length-set}
 use lib.Seq.{take-all}
 use Rattle.theory.proofs.GoodMemory.{length-cells, getD-cells}
-use Rattle.memory.proofs.OffsetTable.{agrees-next}
+use Rattle.layout.proofs.OffsetTable.{agrees-next}
 use Rattle.capacities.specs.Room.{of-variables}
 
 module _ (capacities : List ℕ) where

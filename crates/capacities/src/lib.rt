@@ -11,11 +11,11 @@ ghost use Rattle.capacities.specs.Room.{roomy, line-passes, next-depth, 
 use command::COPY;
 use command::ENDLOOP;
 use command::LOOP;
+use layout::REGISTERS;
+use layout::capacity_at;
 use list::Checked;
 use list::check_list;
-use memory::Machine;
-use memory::are_limited;
-use memory::capacity_at;
+use rule10::are_limited;
 use theory::Refusal;
 use theory::Setting;
 
@@ -114,7 +114,7 @@ fn passes(list: &[u8], variables: usize, capacities: &[u16]) -> bool
 fn are_a_set(capacities: &[u16]) -> bool
     ensures { λ r. ⌜ r ≡ is-set (now (capacities .entry)) ⌝ }
 {
-    if capacities.len() != Machine::REGISTERS {
+    if capacities.len() != REGISTERS {
         return false;
     }
     are_limited(capacities)

@@ -1,25 +1,28 @@
 -- Laws of the numbers of a line: what the reader found at its places, as the definitions' command.
 use mathlib.Core.Path.{_≡_, refl, sym, ap, _∙_}
 use mathlib.Core.Logic.{_≢_}
-use mathlib.Core.Bool.{Bool, true, false, cond, false≢true, true≢false}
+use mathlib.Core.Bool.{Bool, true, false, cond}
 use mathlib.Core.Option.{Option, none, some, Option·map, Option·some-injective}
-use mathlib.Core.List.{[], _∷_}
-use Prim.Native.Nat.{ℕ, suc, _+_, _-_, _<_, _≤_, min}
+use mathlib.Core.List.{[]}
+use Prim.Native.Nat.{ℕ, _+_, _-_, _<_, _≤_, min}
 use native.Mathlib.Omega.{arith}
 use lib.Dec.{eqb, ltb}
 use borrow.Author.Tests.{eqb-true, eqb-false, eq-eqb, ne-eqb, ltb-true, ltb-false}
 use lib.ListN.{length, take, drop, length-append, length-drop, length-replicate, drop-of-length-le}
-use lib.Seq.{take-append-seam, drop-append-seam, take-add, drop-at, length-take-le, drop-drop, drop-cons}
+use lib.Seq.{take-append-seam, take-add, drop-at, length-take-le, drop-drop}
 use Rattle.theory.specs.Text.{Bytes, bytes, Found, following, same, prime, name, name-of, Notation, by-digits, by-primes, name-by}
 use Rattle.theory.specs.Basics.{or-else}
 use Rattle.theory.specs.ProgramText.{loop, while, clear, increment, copy, Command, plain, opens, closes, around, assigns, command}
 use Rattle.theory.proofs.Numerals.{found, name-written}
 use Rattle.theory.proofs.Spellings.{same-iff, name-alone}
-use Rattle.text.specs.Numbers.{found-in}
-use Rattle.text.specs.declared.Number.{Number}
-use Rattle.text.specs.declared.Number.the-variants.{To, No}
+use Rattle.numerals.specs.Numbers.{found-in}
+use Rattle.numerals.specs.declared.Number.{Number}
+use Rattle.numerals.specs.declared.Number.the-variants.{To, No}
+use Rattle.text.specs.Words.{is-some}
+use Rattle.text.proofs.Words.{after-not, after-is, some-left}
+use Rattle.numerals.proofs.Found.{FoundTo, found-missing, found-there}
 use Rattle.command.specs.declared.Numbers.{Numbers}
-use Rattle.command.specs.Lines.{limited, is-some, no-numbers, numbers-as, of-kind, numbered, from-name, most, alike}
+use Rattle.command.specs.Lines.{limited, no-numbers, numbers-as, of-kind, numbered, from-name, most, alike}
 use Rattle.command.specs.Lines.{clears, increments, copies, assignment, loops, endloops, whiles, endwhiles, pair}
 
 -- What follows a word
@@ -28,57 +31,16 @@ after-nothing : (u : Bytes) → following [] u ≡ some u
 unfolding following
 after-nothing u = refl
 
-pub after-not : (w u : Bytes) → is-some (following w u) ≡ false → following w u ≡ none
-after-not w u e = go (following w u) e
-  where
-    go : (o : Option Bytes) → is-some o ≡ false → o ≡ none
-    go none f = refl
-    go (some x) f = absurd (true≢false f)
-
-pub after-is : (w u : Bytes) → is-some (following w u) ≡ true → (following w u ≡ some (drop (length w) u)) × (length w ≤ length u)
-unfolding following
-after-is [] u e = (refl, omega arith)
-after-is (b ∷ w) [] e = absurd (false≢true e)
-after-is (b ∷ w) (c ∷ u) e = go (eqb b c) e (after-is w u)
-  where
-    go : (x : Bool) → is-some (cond x (following w u) none) ≡ true
-        → (is-some (following w u) ≡ true → (following w u ≡ some (drop (length w) u)) × (length w ≤ length u))
-        → (cond x (following w u) none ≡ some (drop (length w) u)) × (suc (length w) ≤ suc (length u))
-    go true f r = (r f .0, omega (arith, r f .1))
-    go false f r = absurd (false≢true f)
-
 -- A name that was found
 
-pub record NameAt (s : Bytes) (at end number : ℕ) : Type 0 where
-  pub value : ℕ
-  pub is : name (drop at s) ≡ some (found value (drop end s))
-  pub kept : number ≡ min value most
-  pub within : end ≤ length s
+abbrev pub NameAt : (s : Bytes) (at end number : ℕ) → Type 0
+NameAt s at = FoundTo s most (name (drop at s))
 
-pub name-missing : (n : ℕ) (u : Bytes) {v : Number} → v ≡ found-in n most (name u) → v ≡ No → name u ≡ none
-name-missing n u e f = go (name u) (sym e ∙ f)
-  where
-    go : (o : Option (Found ℕ)) → found-in n most o ≡ No → o ≡ none
-    go none g = refl
-    go (some x) g = cc
-
-pub name-there : (s : Bytes) (at : ℕ) {end number : ℕ} {v : Number} → at ≤ length s → v ≡ found-in (length s) most (name (drop at s))
-    → v ≡ To end number
+pub name-there : (s : Bytes) (at : ℕ) {end number : ℕ} {v : Number} → v ≡ found-in (length s) most (name (drop at s)) → v ≡ To end number
     → NameAt s at end number
-name-there s at {end} {number} h e f = go (name (drop at s)) refl (sym e ∙ f)
-  where
-    go : (o : Option (Found ℕ)) → name (drop at s) ≡ o → found-in (length s) most o ≡ To end number → NameAt s at end number
-    go none g k = let z : _≡_ {A = ℕ} 0 1 = cc in absurd (omega arith)
-    go (some x) g k =
-        let written : _ = name-written (drop at s) x g in
-        let a : Bytes = name-by (written .0) (x .value) in
-        let long : length a + length (x .rest) ≡ length s - at =
-        sym (length-append a (x .rest)) ∙ ap length (written .1) ∙ length-drop at s in
-        let last : length s - length (x .rest) ≡ end = cc in
-        let at-end : at + length a ≡ end = omega arith in
-        let rest : x .rest ≡ drop end s =
-        sym (drop-append-seam a (x .rest)) ∙ ap (drop (length a)) (written .1) ∙ drop-drop (length a) at s ∙ ap (λ m. drop m s) at-end in
-        record { value = x .value; is = g ∙ rw (← rest); kept = cc; within = omega arith }
+name-there s at =
+    found-there s at most (name (drop at s)) λ f e. let w : _ = name-written (drop at s) f e in
+    (name-by (w .0) (f .value), w .1)
 
 -- The one that begins the line
 abbrev pub name-first : (s : Bytes) (end : ℕ) {number : ℕ} (i : ℕ) → end ≤ length s → name s ≡ some (found i (drop end s))
@@ -131,13 +93,10 @@ module _ (k : ℕ) (front back s : Bytes) where
   pair-no-front e = rw (after-not front s e)
 
   module _ (e : is-some (following front s) ≡ true) where
-    pub pair-front : length front ≤ length s
-    pair-front = after-is front s e .1
-
     pub pair-no-name : {v : Number} → v ≡ found-in (length s) most (name (drop (length front) s)) → v ≡ No
         → no-numbers ≡ of-kind k (around front back s)
     unfolding around
-    pair-no-name f g = rw (after-is front s e .0, name-missing (length s) (drop (length front) s) f g)
+    pair-no-name f g = rw (after-is front s e .0, found-missing (length s) most (name (drop (length front) s)) f g)
 
     module _ {end number : ℕ} (n : NameAt s (length front) end number) where
       pub pair-back : same back (drop end s) ≡ true → numbers-as k number 0 ≡ of-kind k (around front back s)
@@ -201,7 +160,7 @@ module _ {s : Bytes} {end number : ℕ} (f : NameAt s 0 end number) where
 
   pub assigned-no-name : {v : Number} → v ≡ found-in (length s) most (name (drop (end + 4) s)) → v ≡ No → no-numbers ≡ from
   unfolding from-name
-  assigned-no-name e g = rw (name-missing (length s) (drop (end + 4) s) e g)
+  assigned-no-name e g = rw (found-missing (length s) most (name (drop (end + 4) s)) e g)
 
   module _ {last source : ℕ} (n : NameAt s (end + 4) last source) where
     pub assigned-copy : length s ≤ last → numbers-as 3 number source ≡ from
@@ -209,13 +168,9 @@ module _ {s : Bytes} {end number : ℕ} (f : NameAt s 0 end number) where
     assigned-copy l = rw (n .is, drop-of-length-le s l) (numbers-kept 3 (f .value) (n .value) (f .kept) (n .kept))
 
     module _ (l : last < length s) where
-      more : same [] (drop last s) ≡ false
-      unfolding same
-      more = rw (drop-cons s last 0 l)
-
       pub assigned-no-back : same (bytes " + 1") (drop last s) ≡ false → no-numbers ≡ from
       unfolding from-name
-      assigned-no-back e = rw (n .is, e, more)
+      assigned-no-back e = rw (n .is, e, some-left s last l)
 
       module _ (h : end + 4 ≤ length s) (m : length s ≤ most) (e : same (bytes " + 1") (drop last s) ≡ true) where
         pub assigned-increment : alike s end number (end + 4) last source ≡ true → numbers-as 2 number 0 ≡ from
@@ -224,14 +179,14 @@ module _ {s : Bytes} {end number : ℕ} (f : NameAt s 0 end number) where
 
         pub assigned-other : alike s end number (end + 4) last source ≡ false → no-numbers ≡ from
         unfolding from-name
-        assigned-other g = rw (n .is, e, sym (alike-values f n h m) ∙ g, more)
+        assigned-other g = rw (n .is, e, sym (alike-values f n h m) ∙ g, some-left s last l)
 
 -- A line that begins with a name, or does not
 
 module _ (s : Bytes) where
   pub assignment-no-name : {v : Number} → v ≡ found-in (length s) most (name s) → v ≡ No → no-numbers ≡ numbered (assignment s)
   unfolding assignment around assigns following
-  assignment-no-name f g = rw (name-missing (length s) s f g)
+  assignment-no-name f g = rw (found-missing (length s) most (name s) f g)
 
   module _ {end number : ℕ} (n : NameAt s 0 end number) where
     pub assignment-clear : same (bytes " <- 0") (drop end s) ≡ true → numbers-as 1 number 0 ≡ numbered (assignment s)

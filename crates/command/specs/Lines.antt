@@ -1,5 +1,5 @@
 -- What the code reads of a line: three numbers, indices limited to 32, which stands for all above 31.
-use mathlib.Core.Bool.{Bool, true, false, cond}
+use mathlib.Core.Bool.{Bool, cond}
 use mathlib.Core.Option.{Option, none, some, Option·map}
 use mathlib.Core.Path.{_≡_}
 use Prim.Native.Nat.{ℕ, _+_, min}
@@ -12,10 +12,6 @@ use Rattle.command.specs.declared.Numbers.{Numbers}
 
 abbrev pub limited : ℕ → ℕ
 limited n = min n 32
-
-abbrev pub is-some : {A : Type 0} → Option A → Bool
-is-some none = false
-is-some (some x) = true
 
 -- Kind 0, which no command has
 abbrev pub no-numbers : Numbers

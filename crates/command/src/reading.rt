@@ -7,14 +7,15 @@ use crate::INCREMENT;
 use crate::LOOP;
 use crate::Numbers;
 use crate::WHILE;
-use text::Number;
-use text::name;
+use numerals::Number;
+use numerals::name;
+use text::stands;
 ghost use mathlib.Core.Path.{_≡_};
 ghost use Prim.Native.Nat.{_+_, _≤_};
 ghost use lib.ListN.{length, drop};
-ghost use Rattle.theory.specs.Text.{following, same};
+ghost use Rattle.theory.specs.Text.{same};
 ghost use Rattle.theory.specs.ProgramText.{around, command};
-ghost use Rattle.command.specs.Lines.{limited, is-some, numbers-as, of-kind, numbered, alike};
+ghost use Rattle.command.specs.Lines.{limited, numbers-as, of-kind, numbered, alike};
 ghost use Rattle.command.specs.Lines.{assignment as assignment-of, pair as pair-of, Assigned};
 
 // Numbers of names up to here are told apart. No line has as many primes, so what is larger is in digits.
@@ -48,24 +49,6 @@ fn numbers(kind: u8, index: u64, source: u64) -> Numbers
         index: low(index),
         source: low(source),
     }
-}
-
-// Whether a word stands at a place of a line.
-fn stands(s: &[u8], at: usize, word: &[u8]) -> bool
-    requires { ⌜ at ≤ length (now s) ⌝ }
-    ensures { λ r. ⌜ r ≡ is-some (following (now (word .entry)) (drop at (now (s .entry)))) ⌝ }
-{
-    let mut i = 0;
-    while i < word.len() {
-        if s.len() - at <= i {
-            return false;
-        }
-        if s[at + i] != word[i] {
-            return false;
-        }
-        i += 1;
-    }
-    true
 }
 
 // Whether a word is what a line has from a place on.

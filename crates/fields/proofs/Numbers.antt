@@ -10,7 +10,7 @@ use borrow.Author.Tests.{lt-ltb, le-ltb}
 use Rattle.theory.specs.Basics.{with-all, every}
 use Rattle.theory.specs.Text.{Bytes, Found, digits, numeral, name}
 use Rattle.theory.specs.RunSheet.{whole}
-use Rattle.text.specs.Numbers.{found-in}
+use Rattle.numerals.specs.Numbers.{found-in}
 use Rattle.fields.specs.Fields.{most, spelled, all-of, field-of}
 
 -- What is found at the front of a text is a whole field where it ends with the text

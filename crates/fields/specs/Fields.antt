@@ -9,8 +9,8 @@ use Rattle.theory.specs.Limits
 use Rattle.theory.specs.Basics.{every, all}
 use Rattle.theory.specs.Text.{Bytes, numeral, name, fields}
 use Rattle.theory.specs.RunSheet.{whole}
-use Rattle.text.specs.declared.Number.{Number as Told}
-use Rattle.text.specs.declared.Number.the-variants.{To, No}
+use Rattle.numerals.specs.declared.Number.{Number as Told}
+use Rattle.numerals.specs.declared.Number.the-variants.{To, No}
 use Rattle.columns.specs.Columns.{padded}
 use Rattle.fields.specs.declared.Spelled.{Spelled}
 use Rattle.fields.specs.declared.Spelled.the-variants.{Nothing, Number}

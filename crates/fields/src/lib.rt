@@ -1,9 +1,9 @@
 // A line of a run sheet: the number that each field spells, and the numbers of all.
 use columns::Columns;
-use text::Number;
+use numerals::Number;
+use numerals::name;
+use numerals::numeral;
 use text::find;
-use text::name;
-use text::numeral;
 ghost use mathlib.Core.Path.{_≡_};
 ghost use Prim.Native.Nat.{_^_, _≤_, _<_, min};
 ghost use Rattle.fields.specs.Fields.{most, spelled, all-of, field-of, numbers-of};

@@ -12,6 +12,7 @@ use Rattle.theory.specs.TurnedDown.{Answer, after, mapped, lent-after, read-pro
 use Rattle.theory.specs.declared.Setting.{Setting}
 use Rattle.tidy.specs.declared.Form.{Form}
 use Rattle.tidy.specs.Forms.{text-in}
+use Rattle.listing.specs.Listing.{Line, word-text}
 use Rattle.word.specs.Answers as Words
 use Rattle.states.specs.Numbers.{run-numbers, LentAfter}
 use Rattle.memory.specs.Calls.{position, answered}
@@ -19,7 +20,7 @@ use Rattle.memory.specs.declared.answers.Position.{Position}
 use Rattle.report.specs.Answers.{report-into}
 use Rattle.report.specs.declared.Reported.{Reported}
 use Rattle.report.specs.declared.Reported.the-variants as Reported
-use Rattle.packing.specs.Packed.{pack, packed, commands, sizes, count, ending}
+use Rattle.packing.specs.Packed.{pack, packed, commands, sizes, listing-sizes, count, ending}
 use Rattle.packing.specs.Answered.{refusal}
 
 -- Under a setting, a text read into a lent list of three numbers a command: the variables and the commands
@@ -32,10 +33,19 @@ pub record WritesProgram (σ : Setting) (list : List ℕ) (text : Bytes) (r : �
   pub result : r ≡ packed count (write-program-into σ text list)
   pub text-after : text′ ≡ lent-after text (write-program-into σ text list)
 
--- A program handed in as A, translated in a form into a lent word: the word's instructions and symbols
-pub record Translates (form : Form) (A : Answer (List Command)) (word : Bytes) (r : ℕ) (word′ : Bytes) : Type 0 where
-  pub result : r ≡ packed (sizes form) (translate-into (text-in form) word A)
-  pub word-after : word′ ≡ lent-after word (mapped (text-in form) (translate-into (text-in form) word A))
+-- A program or a listing handed in as A, translated into a lent word as `text` writes it: the word's sizes
+pub record TranslatesInto {P : Type 0} (sizes : P → ℕ) (text : P → Bytes) (A : Answer P) (word : Bytes) (r : ℕ) (word′ : Bytes)
+    : Type 0 where
+  pub result : r ≡ packed sizes (translate-into text word A)
+  pub word-after : word′ ≡ lent-after word (mapped text (translate-into text word A))
+
+-- A program, in a form
+abbrev pub Translates : Form → Answer (List Command) → (word : Bytes) (r : ℕ) (word′ : Bytes) → Type 0
+Translates form = TranslatesInto (sizes form) (text-in form)
+
+-- A listing
+abbrev pub TranslatesListing : Answer (List Line) → (word : Bytes) (r : ℕ) (word′ : Bytes) → Type 0
+TranslatesListing = TranslatesInto listing-sizes word-text
 
 -- A program handed in as A, run from a state that is lent as 82 numbers: how the run ended, with its steps; and the numbers then
 pub record RunsSource (A : Answer (List Command)) (numbers : List ℕ) (budget r : ℕ) (numbers′ : List ℕ) : Type 0 where

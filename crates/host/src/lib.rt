@@ -4,18 +4,19 @@ use memory::Position;
 ghost use mathlib.Core.Path.{_≡_};
 ghost use lib.ListN.{length};
 ghost use Rattle.theory.specs.TurnedDown.{read-text-under, read-list-under, read-word-for, read-table-for};
+ghost use Rattle.listing.specs.Refused.{read-listing};
 ghost use Rattle.word.specs.Answers.{zipped};
 ghost use Rattle.packing.specs.Packed.{setting-of, form-of, packed, symbols};
 ghost use Rattle.memory.specs.Calls.{memory, value-of};
-ghost use Rattle.host.specs.Entries.{ReadsProgram, WritesProgram, Translates, RunsSource};
+ghost use Rattle.host.specs.Entries.{ReadsProgram, WritesProgram, Translates, TranslatesListing, RunsSource};
 ghost use Rattle.host.specs.Entries.{ReadsWord, WritesWord, RunsOn, stands-at, Reports, report-made};
 
 // The version of these entries.
 #[no_mangle]
 pub extern "C" fn mudzkvopi_version() -> u32
-    ensures { λ r. ⌜ r ≡ 5 ⌝ }
+    ensures { λ r. ⌜ r ≡ 6 ⌝ }
 {
-    5
+    6
 }
 
 // A text read into a lent list of three numbers a command: rules 1 to 8 under a setting, then 19.
@@ -57,6 +58,14 @@ pub extern "C" fn mudzkvopi_translate_list(
 {
     let setting = packing::setting(setting);
     packing::translated(translation::translate_list(setting, packing::form(form), list, &mut *word))
+}
+
+// A listing handed in as text, translated into a lent word: rules 1 to 4 and 22, then 19.
+#[no_mangle]
+pub extern "C" fn mudzkvopi_translate_listing(text: &[u8], word: &mut [u8]) -> u64
+    ensures { λ r. ⌜ TranslatesListing (read-listing (now (text .entry))) (now (word .entry)) r (now (word .exit)) ⌝ }
+{
+    packing::translated(listings::translate(text, &mut *word))
 }
 
 // A program handed in as text, run from a state of 82 numbers: rules 1 to 8 under a setting, then 9.

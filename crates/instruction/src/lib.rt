@@ -1,10 +1,24 @@
-// The one writer of instructions (document 02, request 4): each is written straight into the part of the output that begins at its place.
+// What a translation answers, and the one writer of instructions (document 02, request 4): each is written straight into the part of the
+// output that begins at its place.
 ghost use mathlib.Core.List.{[], _∷_};
 ghost use mathlib.Core.Path.{_≡_};
 ghost use Rattle.output.specs.Puts.{starting};
 ghost use Rattle.instruction.specs.Instructions.{text, Spelt};
 use output::onward;
 use output::write_runs;
+use theory::Refusal;
+
+// The size of a word: its symbols and its instructions.
+pub struct Size {
+    pub symbols: usize,
+    pub instructions: usize,
+}
+
+// A program or a listing is translated into a word of a size, or refused by the first rule that applies.
+pub enum Translated {
+    Done(Size),
+    Refused(Refusal),
+}
 
 // The number of # of an instruction, by its kind.
 pub const APPEND: usize = 1;

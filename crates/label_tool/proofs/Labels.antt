@@ -19,8 +19,8 @@ use Rattle.printing.specs.Lines.{Few, refusal-line}
 use Rattle.output.proofs.Puts.{put-then, sets-front}
 use Rattle.tidy.specs.declared.Form.the-variants.{Plain}
 use Rattle.translation.specs.Answers.{size-in, size-answer, translated, output}
-use Rattle.translation.specs.declared.Size.{Size}
-use Rattle.translation.specs.declared.Translated.the-variants as T
+use Rattle.instruction.specs.declared.Size.{Size}
+use Rattle.instruction.specs.declared.Translated.the-variants as T
 use Rattle.label_tool.specs.Label.{label}
 
 module _ (lent t : Bytes) (size : length lent ≡ 600001) where

@@ -1,1 +1,2 @@
+pub mod OffsetTable
 pub mod Lists

@@ -19,8 +19,6 @@ pub struct Program {
 
 // The limits of a program, and the numbers of its list: three a command.
 impl Program {
-    pub const BYTES: usize = 16384;
-
     pub const LINES: usize = 512;
 
     pub const OPEN: usize = Opening::MOST;

@@ -21,7 +21,7 @@ use Rattle.memory.specs.Held.{Held}
 use Rattle.output.specs.Puts.{starting}
 use Rattle.output.proofs.Puts.{starting-whole}
 use Rattle.memory.specs.Fresh.{fresh-registers}
-use Rattle.memory.proofs.OffsetTable.{agrees-next}
+use Rattle.layout.proofs.OffsetTable.{agrees-next}
 
 pub zeros-at : (m i : ℕ) → _≡_ {A = ℕ} 0 (getD (replicate m 0) i 0)
 zeros-at zero i = refl

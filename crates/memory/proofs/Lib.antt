@@ -1,6 +1,3 @@
-pub mod OffsetTable
-pub mod Places
-pub mod Rule10
 pub mod Rest
 pub mod RegisterOne
 pub mod Values

@@ -15,16 +15,13 @@ use Rattle.theory.specs.TurnedDown.{mapped, rule-10, instructions}
 use Rattle.theory.specs.TurnedDown.{read-word-for, read-table-for}
 use Rattle.theory.specs.declared.End.the-variants as End
 use Rattle.theory.specs.declared.Refusal.{Refusal}
+pub use Rattle.rule10.specs.Lent.{memory}
 use Rattle.memory.specs.declared.answers.Position.{Position}
 use Rattle.memory.specs.declared.answers.Ended.{Ended}
 use Rattle.memory.specs.declared.answers.Ended.the-variants as Ended
 use Rattle.memory.specs.declared.answers.Run.{Run}
 use Rattle.memory.specs.declared.answers.Value.{Value}
 use Rattle.memory.specs.declared.answers.Value.the-variants as Value
-
--- The memory that a call is lent
-abbrev pub memory : List ℕ → Bytes → List ℕ → Memory
-memory capacities store lengths = record { capacities = capacities; store = store; lengths = lengths }
 
 abbrev pub position : Position → M.Position
 position p = record { place = p .place; steps = p .steps }

@@ -30,12 +30,9 @@ impl Position {
 pub struct Machine {}
 
 impl Machine {
-    pub const REGISTERS: usize = 64;
+    pub const REGISTERS: usize = layout::REGISTERS;
 
-    // Where a place begins, for as many registers, and where the last one ends.
-    pub const OFFSETS: usize = 65;
-
-    pub const CAPACITY: usize = 1024;
+    pub const CAPACITY: usize = layout::CAPACITY;
 
     // A fresh word's registers, laid out in a lent store and lengths: register i + 1 holds as many 1s as value i, and every other register
     // is empty. Rule 10 where the sizes are not the machine's, or a value has no register that can hold it.

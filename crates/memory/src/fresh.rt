@@ -3,13 +3,14 @@ ghost use mathlib.Core.Path.{_≡_};
 ghost use Prim.Native.Nat.{ℕ, _≤_};
 ghost use lib.ListN.{length, getD};
 ghost use Rattle.theory.specs.Machines.{ones, laid};
-ghost use Rattle.memory.specs.Held.{Sized, Held};
+ghost use Rattle.rule10.specs.Lent.{Sized};
+ghost use Rattle.memory.specs.Held.{Held};
 ghost use Rattle.memory.specs.Calls.{memory};
 ghost use Rattle.memory.specs.Fresh.{fresh-registers, values-within, can-hold};
-use crate::checks::capacity_at;
-use crate::checks::is_sized;
-use crate::checks::offsets;
+use layout::capacity_at;
+use layout::offsets;
 use output::write_runs;
+use rule10::is_sized;
 
 fn wide(x: u32) -> usize
     ensures { λ r. ⌜ r ≡ x ⌝ }

@@ -1,6 +1,5 @@
-// The memory of a machine of document 01, "Machines of the set": what a call is lent, rule 10, the value, and what a run hands back.
+// The memory of a machine of document 01, "Machines of the set": its fresh registers, its value, and what a run hands back.
 mod answers;
-mod checks;
 mod fresh;
 
 pub use answers::Ended;
@@ -9,14 +8,11 @@ pub use answers::Machine;
 pub use answers::Position;
 pub use answers::Run;
 pub use answers::Value;
-pub use checks::are_limited;
-pub use checks::capacity_at;
-pub use checks::is_memory;
-pub use checks::offsets;
 ghost use mathlib.Core.Path.{_≡_};
 ghost use Rattle.memory.specs.Calls.{memory, Valued};
 ghost use Rattle.memory.specs.Held.{rest-empty};
-use crate::checks::wide;
+use layout::wide;
+use rule10::is_memory;
 use theory::Refusal;
 
 // Whether every register but the first is empty, by their lengths.

@@ -3,14 +3,9 @@
 ghost use mathlib.Core.Path.{_≡_};
 ghost use Prim.Native.Nat.{min};
 ghost use Rattle.order.specs.Order.{turned, in-order};
-use memory::Machine;
+use layout::CAPACITY;
+use layout::wide;
 use output::put_bytes;
-
-fn wide(x: u16) -> usize
-    ensures { λ r. ⌜ r ≡ x ⌝ }
-{
-    x as usize
-}
 
 fn shorter(a: usize, b: usize) -> usize
     ensures { λ r. ⌜ r ≡ min a b ⌝ }
@@ -23,7 +18,7 @@ fn turn(ring: &mut [u8], start: usize)
     ensures { λ _. ⌜ now (ring .exit) ≡ turned start (now (ring .entry)) ⌝ }
 {
     let size = ring.len();
-    if Machine::CAPACITY < size {
+    if CAPACITY < size {
         return;
     }
     if start == 0 {
@@ -32,7 +27,7 @@ fn turn(ring: &mut [u8], start: usize)
     if size <= start {
         return;
     }
-    let mut old = [0u8; Machine::CAPACITY];
+    let mut old = [0u8; CAPACITY];
     put_bytes(&mut old, 0, ring);
     let next = put_bytes(&mut *ring, 0, &old[start..size]);
     put_bytes(ring, next, &old[0..start]);

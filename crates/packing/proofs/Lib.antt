@@ -1,4 +1,1 @@
 pub mod Packs
-pub mod Unpacked
-pub mod Bounds
-pub mod Fitting

@@ -9,8 +9,8 @@ use Rattle.word.specs.declared.answers.Read.{Read}
 use Rattle.word.specs.declared.answers.Read.the-variants as Read
 use Rattle.word.specs.declared.answers.Written as Word
 use Rattle.word.specs.declared.answers.Written.the-variants as WordWritten
-use Rattle.translation.specs.declared.Translated.{Translated}
-use Rattle.translation.specs.declared.Translated.the-variants as Translated
+use Rattle.instruction.specs.declared.Translated.{Translated}
+use Rattle.instruction.specs.declared.Translated.the-variants as Translated
 use Rattle.source.specs.declared.answers.Ended as Source
 use Rattle.source.specs.declared.answers.Ended.the-variants as SourceEnded
 use Rattle.memory.specs.declared.answers.Ended as Machine

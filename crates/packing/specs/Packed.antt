@@ -16,6 +16,7 @@ use Rattle.theory.specs.declared.Setting.the-variants.{Any, LoopOnly}
 use Rattle.tidy.specs.declared.Form.{Form}
 use Rattle.tidy.specs.declared.Form.the-variants.{Plain, Tidy}
 use Rattle.tidy.specs.Forms.{word-in, text-in}
+use Rattle.listing.specs.Listing.{Line, word, word-text}
 
 -- 0 is outside the LOOP-only setting; 1, and any number that is not known, is under it
 abbrev pub setting-of : ℕ → Setting
@@ -48,6 +49,10 @@ commands p = pack 0 (variables p) (length p)
 -- Its word in a form: the instructions and the symbols
 abbrev pub sizes : Form → List Command → ℕ
 sizes form p = pack 0 (length (word-in form p)) (length (text-in form p))
+
+-- A listing's word: the same
+abbrev pub listing-sizes : List Line → ℕ
+listing-sizes l = pack 0 (length (word l)) (length (word-text l))
 
 -- A list: its length
 abbrev pub count : {A : Type 0} → List A → ℕ

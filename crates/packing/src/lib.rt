@@ -103,12 +103,12 @@ pub fn word_written(written: word::Written) -> u64
 }
 
 // A program translated, by its word's instructions and symbols.
-pub fn translated(answer: translation::Translated) -> u64
+pub fn translated(answer: instruction::Translated) -> u64
     ensures { λ r. ⌜ r ≡ translated answer ⌝ }
 {
     match answer {
-        translation::Translated::Done(size) => pack(0, size.instructions, size.symbols),
-        translation::Translated::Refused(r) => refused(r),
+        instruction::Translated::Done(size) => pack(0, size.instructions, size.symbols),
+        instruction::Translated::Refused(r) => refused(r),
     }
 }
 

@@ -4,7 +4,7 @@ ghost use Rattle.memory.specs.Calls.{memory, refused-at, after-10};
 use memory::Ended;
 use memory::Position;
 use memory::Run;
-use memory::is_memory;
+use rule10::is_memory;
 use theory::Refusal;
 
 // A call that a rule after 10 turns down: rule 10 goes before.

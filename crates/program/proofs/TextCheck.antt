@@ -3,11 +3,11 @@ use mathlib.Core.Path.{_≡_, refl, sym, ap}
 use mathlib.Core.Bool.{Bool, true, false, _||_}
 use mathlib.Core.Option.{Option, none, some, Option·map, Option·none-ne-some}
 use mathlib.Core.List.{List, [], _∷_, map}
-use Prim.Native.Nat.{ℕ, suc, _-_, _≤_, _<_}
+use Prim.Native.Nat.{ℕ, suc, _≤_, _<_}
 use native.Mathlib.Omega.{arith}
-use borrow.Author.Tests.{leb-true, leb-false, lt-leb, le-leb, ne-eqb}
+use borrow.Author.Tests.{leb-true, leb-false, lt-leb, le-leb}
 use lib.Dec.{leb, eqb}
-use lib.ListN.{length, getD, length-map}
+use lib.ListN.{length, length-map}
 use Rattle.theory.specs.Basics.{or-else, present}
 use Rattle.theory.specs.Text.{Bytes, split-lines, ends-in-LF}
 use Rattle.theory.specs.ProgramText as P
@@ -116,18 +116,6 @@ module _ (σ : Setting) where
           → answer v (present (map capped-line (text-lines t))) ≡ answer v (present (text-lines t))
       go none e = rw (all-capped (text-lines t) 1 [] (faultless (text-lines t) (program-outside σ (text-lines t) e) .1))
       go (some r) e = refl
-
--- Rule 2's last byte
-pub last-byte : (t : Bytes) → (length t ≡ 0 → ⊥) → eqb (getD t (length t - 1) 0) 10 ≡ (eqb (length t) 0 || ends-in-LF t)
-unfolding ends-in-LF
-last-byte [] n = absurd (n refl)
-last-byte (b ∷ t) n =
-    let e : suc (length t) - 1 ≡ length t = omega arith in
-    rw (e, ne-eqb (suc (length t)) 0 n) (sym (go b t))
-  where
-    go : (b : ℕ) (t : Bytes) → ends-in-LF (b ∷ t) ≡ eqb (getD (b ∷ t) (length t) 0) 10
-    go b [] = refl
-    go b (c ∷ t) = go c t
 
 -- The rules of a text, in order
 

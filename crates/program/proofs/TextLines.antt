@@ -1,34 +1,17 @@
--- Laws of the lines of a text: where each ends, and their numbers in the list as they are read.
+-- Laws of the lines of a text: their numbers in the list as they are read.
 use mathlib.Core.Path.{_≡_, refl, sym, ap, _∙_}
-use mathlib.Core.Bool.{Bool, true, false, cond, not}
 use mathlib.Core.List.{List, [], _∷_, _++_, append-assoc, append-nil}
-use Prim.Native.Nat.{ℕ, suc, _+_, _-_, _*_, _<_, _≤_}
+use Prim.Native.Nat.{ℕ, _+_, _-_, _*_, _<_, _≤_}
 use native.Mathlib.Omega.{arith}
-use lib.Dec.{eqb}
-use lib.ListN.{length, take, drop, length-append, length-drop, drop-of-length-le}
-use lib.Seq.{sets, sets-eq, drop-drop, take-at, length-take-le}
-use Rattle.theory.specs.Text.{Bytes, LF, onto-first, split-lines}
+use lib.ListN.{length, take, drop, length-append, drop-of-length-le}
+use lib.Seq.{sets, sets-eq, take-at, length-take-le}
+use Rattle.theory.specs.Text.{Bytes, LF, split-lines}
 use Rattle.theory.specs.ProgramText.{command}
-use Rattle.text.specs.Runs.{leading, before}
+use Rattle.text.specs.Runs.{before}
+use Rattle.text.proofs.Lines.{next-line}
 use Rattle.command.specs.declared.Numbers.{Numbers}
 use Rattle.command.specs.Lines.{numbered}
 use Rattle.program.specs.Lines.{all-numbers, Lined}
-
-abbrev line-length : Bytes → ℕ
-line-length = before LF
-
--- A text that is not empty has a first line, and those after its LF
-first-line : (t : Bytes) → 0 < length t → split-lines t ≡ take (line-length t) t ∷ split-lines (drop (suc (line-length t)) t)
-unfolding split-lines leading
-first-line [] h = absurd (omega arith)
-first-line (b ∷ t) h = go (eqb b LF) t (first-line t)
-  where
-    go : (x : Bool) (t : Bytes) → (0 < length t → split-lines t ≡ take (line-length t) t ∷ split-lines (drop (suc (line-length t)) t))
-        → cond x ([] ∷ split-lines t) (onto-first b (split-lines t))
-        ≡ take (cond (not x) (suc (line-length t)) 0) (b ∷ t) ∷ split-lines (drop (suc (cond (not x) (suc (line-length t)) 0)) (b ∷ t))
-    go true t r = refl
-    go false [] r = refl
-    go false (c ∷ t) r = rw (r (omega arith))
 
 -- The numbers of lines, as they are stored
 
@@ -60,15 +43,9 @@ module _ (t l : List ℕ) (at lines : ℕ) (h : LinesFrom t l at lines) where
         numbers = λ f. sym (append-nil (take (3 * lines) l)) ∙ (rw none-left at (h .numbers f));
       }
 
-  module _ (more : at < length t) (end : ℕ) (e : end ≡ at + line-length (drop at t)) (k : end ≤ length t) where
+  module _ (more : at < length t) (end : ℕ) (e : end ≡ at + before LF (drop at t)) (k : end ≤ length t) where
     abbrev line : Bytes
     line = take (end - at) (drop at t)
-
-    split : split-lines (drop at t) ≡ line ∷ split-lines (drop (end + 1) t)
-    split =
-        let a : line-length (drop at t) ≡ end - at = omega (arith, e) in
-        let b : at + suc (end - at) ≡ end + 1 = omega (arith, e) in
-        first-line (drop at t) (omega (arith, length-drop at t)) ∙ rw (a, drop-drop (suc (end - at)) at t, b)
 
     pub lines-next : (n : Numbers) (l′ : List ℕ) → n ≡ numbered (command line) → length l′ ≡ length l
         → (3 * lines + 3 ≤ length l → l′ ≡ sets l (3 * lines) (n .kind ∷ (n .index ∷ (n .source ∷ []))))
@@ -80,12 +57,12 @@ module _ (t l : List ℕ) (at lines : ℕ) (h : LinesFrom t l at lines) where
         let m : 3 * (lines + 1) ≡ 3 * lines + 3 = omega arith in
         let front : lines + 1 ≤ 512 → take (3 * (lines + 1)) l′ ≡ take (3 * lines) l ++ three =
         λ r. rw (m, s (omega (arith, h .size))) (numbers-stored l (3 * lines) (n .kind) (n .index) (n .source) (omega (arith, h .size))) in
-        let left : all-numbers (split-lines (drop at t)) ≡ three ++ rest = rw (split, f) in
+        let left : all-numbers (split-lines (drop at t)) ≡ three ++ rest = rw (next-line t at end more e, f) in
         record {
           within = omega arith;
           few = omega (arith, h .few, e);
           size = omega (arith, g, h .size);
-          count = omega (arith, h .count, ap length split);
+          count = omega (arith, h .count, ap length (next-line t at end more e));
           numbers = λ r. ap (λ u. u ++ rest) (front r) ∙ append-assoc (take (3 * lines) l) three rest
               ∙ rw (← left) (h .numbers (omega arith));
         }

@@ -7,13 +7,11 @@ pub use list::Checked;
 pub use list::Program;
 pub use list::check_list;
 use output::put_bytes;
+use text::BYTES;
+use text::is_ended;
 use theory::Refusal;
 use theory::Setting;
 ghost use mathlib.Core.Path.{_≡_};
-ghost use mathlib.Core.Bool.{_||_};
-ghost use lib.Dec.{eqb};
-ghost use lib.ListN.{length};
-ghost use Rattle.theory.specs.Text.{ends-in-LF};
 ghost use Rattle.theory.specs.ProgramText.{list-of};
 ghost use Rattle.theory.specs.TurnedDown.{mapped, lent-after, read-program-into, write-program-into};
 ghost use Rattle.list.specs.Answers.{checked};
@@ -32,23 +30,13 @@ fn refused(number: u32, place: usize) -> Checked
     Checked::Refused(Refusal { number, place })
 }
 
-// Whether a text is empty or ends in LF, which rule 2 asks.
-fn is_ended(text: &[u8]) -> bool
-    ensures { λ r. ⌜ r ≡ (eqb (length (now (text .entry))) 0 || ends-in-LF (now (text .entry))) ⌝ }
-{
-    if text.len() == 0 {
-        return true;
-    }
-    text[text.len() - 1] == b'\n'
-}
-
 // A text read into a lent list of three numbers a command: rules 1 to 8 under a setting, then 19.
 pub fn read(setting: Setting, text: &[u8], list: &mut [u8]) -> Checked
     ensures { λ r. ⌜ r ≡ checked (read-program-into setting (now (list .entry)) (now (text .entry))) ⌝ }
     ensures { λ _. ⌜ now (list .exit)
         ≡ lent-after (now (list .entry)) (mapped list-of (read-program-into setting (now (list .entry)) (now (text .entry)))) ⌝ }
 {
-    if Program::BYTES < text.len() {
+    if BYTES < text.len() {
         return refused(1, 0);
     }
     let mut numbers = [0u8; Program::NUMBERS];

@@ -16,8 +16,8 @@ use Rattle.theory.specs.RunTool.{capacities-fault}
 use Rattle.theory.proofs.Faults.{unless-none, and-first, and-second}
 use Rattle.theory.proofs.GoodMemory.{all-below-from}
 use Rattle.theory.proofs.Offsets.{offset-whole, offset-bound}
-use Rattle.memory.specs.Held.{offsets-of}
-use Rattle.memory.proofs.OffsetTable.{offsets-at}
+use Rattle.layout.specs.Offsets.{offsets-of}
+use Rattle.layout.proofs.OffsetTable.{offsets-at}
 use Rattle.capacities.specs.Room.{is-set, of-variables}
 use Rattle.capacities.proofs.Cells.{variables-at}
 use Rattle.report.specs.Fresh.{IsSet}

@@ -15,8 +15,8 @@ use Rattle.theory.specs.TurnedDown.{Answer, done, refused, rule-19, lent-after,
 use Rattle.theory.specs.declared.Refusal.{Refusal}
 use Rattle.tidy.specs.declared.Form.the-variants.{Plain}
 use Rattle.translation.specs.Answers.{size-in, size-answer, translated}
-use Rattle.translation.specs.declared.Size.{Size}
-use Rattle.translation.specs.declared.Translated.the-variants as T
+use Rattle.instruction.specs.declared.Size.{Size}
+use Rattle.instruction.specs.declared.Translated.the-variants as T
 
 -- A word that is in the buffer, of so many symbols
 pub record InBuffer (p : List Command) (out : Bytes) (symbols : ℕ) : Type 0 where

@@ -87,7 +87,7 @@ fn run_part(
         → length (now (values .entry)) ≡ variables-of p
         → r ≡ ended-of (word-on (now (capacities .entry)) p (values-of (now (values .entry))))) ⌝ }
 {
-    let places = memory::offsets(capacities);
+    let places = layout::offsets(capacities);
     let size = places[Machine::REGISTERS];
     run_in(
         capacities,

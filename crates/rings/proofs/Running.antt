@@ -22,9 +22,10 @@ use Rattle.theory.proofs.Budgets.{Underway, underway-start, underway-ended, und
 use Rattle.theory.proofs.Faults.{and-first, and-second}
 use Rattle.theory.proofs.GoodMemory.{memory-is-good, contents-fit, contents-stored, contents-counted}
 use Rattle.rings.specs.declared.effect.Step.the-variants as Step
-use Rattle.memory.specs.Held.{Sized, Held}
+use Rattle.rule10.specs.Lent.{Sized}
+use Rattle.memory.specs.Held.{Held}
 use Rattle.memory.specs.Calls.{memory}
-use Rattle.memory.proofs.Rule10.{are-sized}
+use Rattle.rule10.proofs.Sizes.{are-sized}
 use Rattle.rings.specs.Ring.{Ring, Zeros}
 use Rattle.word.specs.Answers.{zipped}
 use Rattle.rings.specs.Steps.{Usables, Performed, bias, placed, state}

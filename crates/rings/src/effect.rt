@@ -5,7 +5,7 @@ ghost use Prim.Native.Nat.{ℕ, _≤_, _<_, _-_, _^_};
 ghost use lib.IntN.{pos, negℤ};
 ghost use lib.ListN.{length};
 ghost use Rattle.theory.specs.Word.{Symbol};
-ghost use Rattle.memory.specs.Held.{Sized};
+ghost use Rattle.rule10.specs.Lent.{Sized};
 ghost use Rattle.rings.specs.Ring.{Offsets, Ring, Ringed};
 ghost use Rattle.rings.specs.Steps.{Usable, Performed, placed, number-of, symbol-of, next-if, by-byte};
 ghost use Rattle.theory.specs.Word as W;

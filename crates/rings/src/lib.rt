@@ -11,7 +11,7 @@ use crate::runs::run_usable;
 use memory::Ended;
 use memory::Position;
 use memory::Run;
-use memory::is_memory;
+use rule10::is_memory;
 use theory::Refusal;
 use usable::Unusable;
 use usable::first_unusable;

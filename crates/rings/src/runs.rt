@@ -16,11 +16,11 @@ use crate::effect::Step;
 use crate::effect::number;
 use crate::effect::perform;
 use crate::effect::place_of;
+use layout::offsets;
 use memory::Ended;
 use memory::Machine;
 use memory::Position;
 use memory::Run;
-use memory::offsets;
 use order::put_in_order;
 use theory::End;
 

@@ -6,7 +6,7 @@ ghost use mathlib.Core.List.{List};
 ghost use Prim.Native.Nat.{ℕ, suc, _<_};
 ghost use lib.ListN.{length};
 ghost use Rattle.theory.specs.Word.{Symbol, byte-of};
-ghost use Rattle.memory.specs.Held.{Sized};
+ghost use Rattle.rule10.specs.Lent.{Sized};
 ghost use Rattle.rings.specs.Ring as R;
 ghost use Rattle.rings.specs.Ring.{Offsets, Ring, Ringed, Appended, Deleted};
 

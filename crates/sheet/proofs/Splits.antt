@@ -4,40 +4,24 @@ use mathlib.Core.Bool.{Bool, true, false}
 use mathlib.Core.List.{List, [], _∷_}
 use Prim.Native.Nat.{ℕ, suc, _+_, _-_, _≤_, _<_, min}
 use native.Mathlib.Omega.{arith}
-use lib.ListN.{length, take, drop, getD, length-drop, length-take, drop-of-length-le}
-use lib.Seq.{drop-cons, drop-drop, drop-length}
-use lib.Dec.{eqb, ltb}
+use lib.ListN.{length, take, drop, length-drop, length-take, drop-of-length-le}
+use lib.Seq.{drop-drop, drop-length}
+use lib.Dec.{ltb}
 use borrow.Author.Tests.{ltb-true, ltb-false}
-use Rattle.theory.specs.Text.{Bytes, LF, onto-first, split-lines}
+use Rattle.theory.specs.Text.{Bytes, LF, split-lines}
 use Rattle.sheet.specs.Answers.{head-line, line-at, after-line}
 use Rattle.text.specs.Runs.{leading, is-other, before}
 use Rattle.text.proofs.Runs.{leading-length}
+use Rattle.text.proofs.Lines.{first-line}
 use Rattle.fields.proofs.Splits.{before-within}
 
 before-length : (separator : ℕ) (t : Bytes) → before separator t ≤ length t
 before-length separator = leading-length (is-other separator)
 
--- The first line is what stands before the first LF
-abbrev first-line : Bytes → List Bytes
-first-line t = take (before LF t) t ∷ split-lines (drop (suc (before LF t)) t)
-
-lines-first : (b : ℕ) (t : Bytes) → split-lines (b ∷ t) ≡ first-line (b ∷ t)
-unfolding split-lines leading
-lines-first b [] = go (eqb b LF) refl
-  where
-    go : (x : Bool) → eqb b LF ≡ x → split-lines (b ∷ []) ≡ first-line (b ∷ [])
-    go true e = rw e
-    go false e = rw e
-lines-first b (c ∷ t) = go (eqb b LF) refl (lines-first c t)
-  where
-    go : (x : Bool) → eqb b LF ≡ x → split-lines (c ∷ t) ≡ first-line (c ∷ t) → split-lines (b ∷ c ∷ t) ≡ first-line (b ∷ c ∷ t)
-    go true e h = rw e
-    go false e h = rw e (ap {B = List Bytes} (onto-first b) h)
-
 head-of : (t : Bytes) → head-line (split-lines t) ≡ take (before LF t) t
 unfolding split-lines leading
 head-of [] = refl
-head-of (b ∷ t) = ap head-line (lines-first b t)
+head-of (b ∷ t) = ap head-line (first-line (b ∷ t) (omega arith))
 
 -- The line that begins at a byte
 module _ (s : Bytes) (at : ℕ) where
@@ -51,10 +35,9 @@ module _ (s : Bytes) (at : ℕ) where
   -- and the lines behind it
   pub lines-next : at < length s → split-lines (drop at s) ≡ line-at s at ∷ split-lines (drop (after-line s at) s)
   lines-next h =
-      let first : _ = lines-first (getD s at 0) (drop (suc at) s) in
-      let whole : drop at s ≡ getD s at 0 ∷ drop (suc at) s = drop-cons s at 0 h in
       let n : ℕ = before LF (drop at s) in
-      let split : split-lines (drop at s) ≡ take n (drop at s) ∷ split-lines (drop (suc n) (drop at s)) = rw (← whole) at first in
+      let split : split-lines (drop at s) ≡ take n (drop at s) ∷ split-lines (drop (suc n) (drop at s)) =
+      first-line (drop at s) (omega (arith, length-drop at s)) in
       let same : drop (suc n) (drop at s) ≡ drop (after-line s at) s = drop-drop (suc n) at s ∙ behind in
       split ∙ ap₂ {C = List Bytes} (λ l u. l ∷ split-lines u) (sym line-taken) same
     where

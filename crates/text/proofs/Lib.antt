@@ -1,3 +1,5 @@
 pub mod Runs
-pub mod Numbers
+pub mod Words
+pub mod Lines
 pub mod Tests
+pub mod Ended

@@ -1,26 +1,18 @@
-// What stands at a place of a text: how far a run goes, where a line ends, a numeral, a name. A place past the end has nothing at it. And
-// whether bytes are the symbols of a word.
+// What stands at a place of a text: how far a run goes, where a line ends, a word. A place past the end has nothing at it. And whether a
+// text has ended, and whether bytes are the symbols of a word.
 ghost use mathlib.Core.Path.{_≡_};
-ghost use mathlib.Core.Option.{some};
-ghost use Prim.Native.Nat.{_+_, _-_, _*_, _≤_, _<_, min};
+ghost use mathlib.Core.Bool.{_||_};
+ghost use Prim.Native.Nat.{_+_, _-_};
+ghost use lib.Dec.{eqb};
 ghost use lib.ListN.{length, drop};
 ghost use Rattle.theory.specs.Basics.{all};
-ghost use Rattle.theory.specs.Text.{LF, numeral as numeral-of, primes as primes-of, name as name-of};
+ghost use Rattle.theory.specs.Text.{LF, ends-in-LF, following};
 ghost use Rattle.theory.specs.Word.{is-symbol};
 ghost use Rattle.text.specs.Runs.{run, before};
-ghost use Rattle.text.specs.Numbers.{found-in, DigitsTo, AsNumeral};
+ghost use Rattle.text.specs.Words.{is-some};
 
-// A number at a place of a text: where it ends, and its value, kept at a limit where it is above that.
-pub enum Number {
-    To { end: usize, value: u64 },
-    No,
-}
-
-// The digits at a place of a text: where they end, and the number that they spell.
-pub struct Digits {
-    pub end: usize,
-    pub value: u64,
-}
+// The most bytes of a program's or a listing's text (rule 1).
+pub const BYTES: usize = 16384;
 
 // Where the first such byte stands, from a place on; the text's end where none does.
 pub fn find(text: &[u8], at: usize, byte: u8) -> usize
@@ -43,6 +35,16 @@ pub fn line_end(text: &[u8], at: usize) -> usize
     find(text, at, b'\n')
 }
 
+// Whether a text is empty or ends in LF, which rule 2 asks.
+pub fn is_ended(text: &[u8]) -> bool
+    ensures { λ r. ⌜ r ≡ (eqb (length (now (text .entry))) 0 || ends-in-LF (now (text .entry))) ⌝ }
+{
+    if text.len() == 0 {
+        return true;
+    }
+    text[text.len() - 1] == b'\n'
+}
+
 // Where the run of a byte ends that starts at a place.
 pub fn run_end(text: &[u8], at: usize, byte: u8) -> usize
     ensures { λ r. ⌜ r ≡ at + run byte (drop at (now (text .entry))) ⌝ }
@@ -57,101 +59,21 @@ pub fn run_end(text: &[u8], at: usize, byte: u8) -> usize
     next
 }
 
-// Up to here a number takes one digit more without a wrap.
-const SAFE: u64 = 1000000000000000000;
-
-// One digit more, up to a limit.
-fn grown(value: u64, digit: u8, most: u64) -> u64
-    ensures { λ r. ⌜ r ≡ min (value * 10 + digit) most ⌝ }
+// Whether a word stands at a place.
+pub fn stands(text: &[u8], at: usize, word: &[u8]) -> bool
+    ensures { λ r. ⌜ r ≡ is-some (following (now (word .entry)) (drop at (now (text .entry)))) ⌝ }
 {
-    let d = digit as u64;
-    if value <= SAFE {
-        let next = value * 10 + d;
-        if next < most { next } else { most }
-    } else if most < d {
-        most
-    } else if (most - d) / 10 < value {
-        most
-    } else {
-        value * 10 + d
-    }
-}
-
-// The digits at a place, as far as they go.
-fn digits_at(text: &[u8], at: usize, most: u64) -> Digits
-    ensures { λ r. ⌜ DigitsTo (now (text .entry)) at most r ⌝ }
-{
-    let mut end = at;
-    let mut value = 0;
-    while end < text.len() {
-        let b = text[end];
-        if b < b'0' {
-            return Digits { end, value };
+    let mut i = 0;
+    while i < word.len() {
+        if text.len() - i <= at {
+            return false;
         }
-        if b'9' < b {
-            return Digits { end, value };
+        if text[at + i] != word[i] {
+            return false;
         }
-        value = grown(value, b - b'0', most);
-        end += 1;
+        i += 1;
     }
-    Digits { end, value }
-}
-
-// The digits at a place, as a numeral: it has no leading zero.
-fn proper(text: &[u8], at: usize, digits: Digits) -> Number
-    requires { ⌜ at < length (now text) ⌝ }
-    ensures { λ r. ⌜ AsNumeral (now (text .entry)) at digits r ⌝ }
-{
-    if text[at] == b'0' {
-        if at + 1 < digits.end {
-            return Number::No;
-        }
-    }
-    Number::To {
-        end: digits.end,
-        value: digits.value,
-    }
-}
-
-// A numeral: digits with no leading zero.
-pub fn numeral(text: &[u8], at: usize, most: u64) -> Number
-    ensures { λ r. ⌜ r ≡ found-in (length (now (text .entry))) most (numeral-of (drop at (now (text .entry)))) ⌝ }
-{
-    let digits = digits_at(text, at, most);
-    if digits.end <= at {
-        return Number::No;
-    }
-    proper(text, at, digits)
-}
-
-// An index in primes: how many stand at a place.
-fn primes(text: &[u8], at: usize, most: u64) -> Number
-    requires { ⌜ at ≤ length (now text) ⌝ }
-    ensures { λ r. ⌜ r ≡ found-in (length (now (text .entry))) most (some (primes-of (drop at (now (text .entry))))) ⌝ }
-{
-    let end = run_end(text, at, b'\'');
-    let count = (end - at) as u64;
-    Number::To {
-        end,
-        value: if count < most { count } else { most },
-    }
-}
-
-// A name: an X, and its index in digits or in primes.
-pub fn name(text: &[u8], at: usize, most: u64) -> Number
-    ensures { λ r. ⌜ r ≡ found-in (length (now (text .entry))) most (name-of (drop at (now (text .entry)))) ⌝ }
-{
-    if text.len() <= at {
-        return Number::No;
-    }
-    if text[at] != b'X' {
-        return Number::No;
-    }
-    let digits = digits_at(text, at + 1, most);
-    if digits.end <= at + 1 {
-        return primes(text, at + 1, most);
-    }
-    proper(text, at + 1, digits)
+    true
 }
 
 // How far two bytes are apart.

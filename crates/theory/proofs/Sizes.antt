@@ -14,8 +14,8 @@ use Rattle.theory.specs.Basics.{given, EachOf}
 use Rattle.theory.specs.ProgramText.{Plain, clear, increment, copy, Kind, loop, while, Command, plain, closes, above, indices}
 use Rattle.theory.specs.ProgramText.{variables, Block, empty, single, pair, lines, block-of}
 use Rattle.theory.specs.Source.{deeper}
-use Rattle.theory.specs.Word.{byte-of, one, Instruction, append, forward, backward, cases, kind, operand, Entry, entry-of, table-of}
-use Rattle.theory.specs.Word.{spell-entries, spell, bytes-of}
+use Rattle.theory.specs.Word.{Symbol, byte-of, Instruction, append, forward, backward, cases, kind, operand, Entry, entry-of}
+use Rattle.theory.specs.Word.{table-of, spell-entries, spell, bytes-of}
 use Rattle.theory.specs.Runs.{register}
 use Rattle.theory.specs.Translation.{scratch, counter, clearing, sharing, returning, touching, copying, plain-code}
 use Rattle.theory.specs.Translation.{before-body, after-body, code, word, word-of, word-text}
@@ -224,16 +224,16 @@ module _ (most : ℕ) where
   abbrev pub Register : ℕ → Type 0
   Register r = (1 ≤ r) × (r ≤ most)
 
-  forward-fits : (n : ℕ) → 1 ≤ n → Fits most (forward n)
+  pub forward-fits : (n : ℕ) → 1 ≤ n → Fits most (forward n)
   forward-fits n h = record { operand = h; register = λ e. absurd (false≢true e) }
 
-  backward-fits : (n : ℕ) → 1 ≤ n → Fits most (backward n)
+  pub backward-fits : (n : ℕ) → 1 ≤ n → Fits most (backward n)
   backward-fits n h = record { operand = h; register = λ e. absurd (false≢true e) }
 
-  cases-fit : (r : ℕ) → Register r → Fits most (cases r)
+  pub cases-fit : (r : ℕ) → Register r → Fits most (cases r)
   cases-fit r h = record { operand = h .0; register = λ e. h .1 }
 
-  append-fits : (r : ℕ) → Register r → Fits most (append one r)
+  pub append-fits : {x : Symbol} (r : ℕ) → Register r → Fits most (append x r)
   append-fits r h = record { operand = h .0; register = λ e. h .1 }
 
   sharing-fits : (a b t : ℕ) → Register a → Register b → Register t → EachOf (Fits most) (sharing a b t)
@@ -360,31 +360,40 @@ rule-15-passes most n (i ∷ w) h =
     go true e = rw (le-ltb most (operand i) (h .0 e))
     go false e = refl
 
-word-good : (K : ℕ) (w : List Instruction) → Sized K w → GoodTable (table-of w)
+-- Of any word within the limits, whose registers are some of a set with so many
+pub word-good : (w : List Instruction) → 1 ≤ length w → length (spell w) ≤ Limits.most-symbols → length w ≤ Limits.most-instructions
+    → EachOf (λ i. 1 ≤ operand i) w → GoodTable (table-of w)
 unfolding spell
-word-good K w s =
+word-good w some symbols instructions operands =
     record {
-      some = omega (arith, s .some-instruction, length-map w entry-of);
-      symbols = omega (arith, s .few-symbols, spelled w);
-      formed = formed-of-instructions w (s .operands-from-1);
-      instructions = omega (arith, s .few-instructions, length-map w entry-of);
+      some = omega (arith, length-map w entry-of);
+      symbols = omega (arith, spelled w);
+      formed = formed-of-instructions w operands;
+      instructions = omega (arith, length-map w entry-of);
     }
 
-pub fits-a-set : (K : ℕ) (w : List Instruction) → Sized K w → FitsASet K w (bytes-of (spell w))
+pub word-read : (most : ℕ) (w : List Instruction) → GoodTable (table-of w) → EachOf (NamesAtMost most) w
+    → read-word-for most (bytes-of (spell w)) ≡ done (table-of w)
 unfolding read-word-for spell rule-15
-fits-a-set K w s = record { sized = s; read = read; same = instructions-of-table w (s .operands-from-1) }
+word-read most w g h =
+    let t : List Entry = table-of w in
+    rw (entries-of-word t (g .formed), word-accepted t g, rule-15-passes most 0 w h)
+
+pub fits-a-set : (K : ℕ) (w : List Instruction) → Sized K w → FitsASet K w (bytes-of (spell w))
+fits-a-set K w s =
+    let good : GoodTable (table-of w) =
+    word-good w (s .some-instruction) (s .few-symbols) (s .few-instructions) (s .operands-from-1) in
+    record {
+      sized = s;
+      read = word-read Limits.most-registers w good within-64;
+      same = instructions-of-table w (s .operands-from-1);
+    }
   where
     within-64 : EachOf (NamesAtMost Limits.most-registers) w
     within-64 =
         let names : (i : Instruction) → NamesAtMost (K + 17) i → NamesAtMost Limits.most-registers i =
         λ i h e. omega (arith, h e, s .few-variables) in
         each-map (NamesAtMost (K + 17)) (NamesAtMost Limits.most-registers) names w (s .low-registers)
-
-    read : read-word-for Limits.most-registers (bytes-of (spell w)) ≡ done (table-of w)
-    read =
-        let t : List Entry = table-of w in
-        let g : GoodTable t = word-good K w s in
-        rw (entries-of-word t (g .formed), word-accepted t g, rule-15-passes Limits.most-registers 0 w within-64)
 
 pub words-fit : WordsFit
 unfolding word-text

@@ -9,7 +9,7 @@ use lib.ListN.{length, length-append, replicate}
 use lib.Dec.{eqb, eqb·suc-zero}
 use borrow.Author.Tests.{eqb-true, ne-eqb, le-leb, not-true}
 use Rattle.theory.specs.Limits
-use Rattle.theory.specs.Basics.{present, all, EachOf}
+use Rattle.theory.specs.Basics.{or-else, present, all, EachOf}
 use Rattle.theory.specs.Text.{Bytes, bytes, LF, is-digit, prime, in-digits, decimal, name-of, Notation, by-digits, by-primes, name-by}
 use Rattle.theory.specs.Text.{onto-first, split-lines, ends-in-LF}
 use Rattle.theory.specs.ProgramText.{clear, increment, copy, loop, while, Command, plain, opens, closes}
@@ -17,6 +17,7 @@ use Rattle.theory.specs.ProgramText.{spelling-by, spelling, text-of, com
 use Rattle.theory.specs.TurnedDown.{done, rule-1, rule-2}
 use Rattle.theory.specs.TurnedDown.{text-lines, program-fault-under, text-fault, text-fault-under, read-text, read-text-under}
 use Rattle.theory.specs.Claims.{Accepted, TextRoundTrip}
+use Rattle.theory.specs.declared.Refusal.{Refusal}
 use Rattle.theory.specs.declared.Setting.{Setting}
 use Rattle.theory.specs.declared.Setting.the-variants.{Any}
 use Rattle.theory.proofs.Faults.{none-first, none-second, unless-none, and-first, and-second}
@@ -43,7 +44,7 @@ split-first (b ∷ l) t h =
     rw (other, split-first l t (and-second (not (eqb b LF)) _ h))
 
 -- LF and blank come before every byte of a name
-digits-without : (x : ℕ) → x < prime → (d : Bytes) → all is-digit d ≡ true → Without x d
+pub digits-without : (x : ℕ) → x < prime → (d : Bytes) → all is-digit d ≡ true → Without x d
 digits-without x l [] h = refl
 digits-without x l (b ∷ d) h =
     let least : 48 ≤ b = digit-least b (and-first (is-digit b) _ h) in
@@ -136,11 +137,16 @@ joined-ended : (ls : List Bytes) → Ended (joined ls)
 joined-ended [] = refl
 joined-ended (l ∷ ls) = rw (ends-line l (joined ls) (joined-ended ls)) (or-true (eqb (length (joined (l ∷ ls))) 0))
 
--- Such a text, short enough, has the faults of its lines alone
+-- Such a text, short enough, has the faults alone that are looked for after these
+pub joined-passes : (ls : List Bytes) → length (joined ls) ≤ Limits.most-bytes → (others : Option Refusal)
+    → or-else (rule-1 (joined ls)) (or-else (rule-2 (joined ls)) others) ≡ others
+unfolding rule-1 rule-2
+joined-passes ls h others = rw (le-leb (length (joined ls)) Limits.most-bytes h, joined-ended ls)
+
 pub lines-fault-only : (σ : Setting) (ls : List Bytes) → length (joined ls) ≤ Limits.most-bytes
     → text-fault-under σ (joined ls) ≡ program-fault-under σ (text-lines (joined ls))
-unfolding text-fault-under rule-1 rule-2
-lines-fault-only σ ls h = rw (le-leb (length (joined ls)) Limits.most-bytes h, joined-ended ls)
+unfolding text-fault-under
+lines-fault-only σ ls h = joined-passes ls h (program-fault-under σ (text-lines (joined ls)))
 
 name-short : (i : ℕ) → i < 100 → length (name-of i) ≤ 3
 unfolding name-of
@@ -204,16 +210,19 @@ unfolding split-lines
 whole-lines [] h = refl
 whole-lines (b ∷ t) h = joined-lines (b ∷ t) (ended-cons b t h)
 
-text-fault-ended : (t : Bytes) → text-fault t ≡ none → Ended t
-unfolding text-fault-under rule-2
-text-fault-ended t h = unless-none _ 2 (length (split-lines t)) (none-first (rule-2 t) _ (none-second (rule-1 t) _ h))
+-- A text that rules 1 and 2 let pass is its lines
+pub lines-again : (t : Bytes) (others : Option Refusal) → or-else (rule-1 t) (or-else (rule-2 t) others) ≡ none → joined (split-lines t) ≡ t
+unfolding rule-2
+lines-again t others h =
+    whole-lines t (unless-none _ 2 (length (split-lines t)) (none-first (rule-2 t) others (none-second (rule-1 t) _ h)))
 
 -- A text that is read is its lines, and each of them is read
 pub lines-of-read : (t : Bytes) (p : List Command) → read-text t ≡ done p → (map some p ≡ text-lines t) × (joined (split-lines t) ≡ t)
+unfolding text-fault-under
 lines-of-read t p h =
     let found : _ = text-read t p h in
     let lines : map some (present (text-lines t)) ≡ text-lines t = nothing-missing (text-lines t) (text-sound t (found .0)) in
-    (rw (found .1) at lines, whole-lines t (text-fault-ended t (found .0)))
+    (rw (found .1) at lines, lines-again t (program-fault-under Any (text-lines t)) (found .0))
 
 pub text-round-trip : TextRoundTrip
 unfolding read-text-under

@@ -360,8 +360,9 @@ read-program-into σ lent t = after (read-text-under σ t) λ p. answer (rule-19
 unfoldable pub write-program-into : Setting → Bytes → List ℕ → Answer Bytes
 write-program-into σ lent l = lend lent (mapped text-of (read-list-under σ l))
 
--- A program, handed in as text (1 to 8) or list (3 to 8), translated into a lent output as the word that `text` writes: its rules, 19
-unfoldable pub translate-into : (List Command → Bytes) → Bytes → Answer (List Command) → Answer (List Command)
+-- A program, handed in as text (1 to 8) or list (3 to 8), translated into a lent output as the word that `text` writes: its rules, 19. What
+-- is translated so may be a listing too (document 02, request 6)
+unfoldable pub translate-into : {P : Type 0} → (P → Bytes) → Bytes → Answer P → Answer P
 translate-into text lent program = after program λ p. answer (rule-19 lent (text p)) p
 
 -- A program, handed in so, run from a state: its rules, 9, the run

@@ -25,8 +25,8 @@ use Rattle.list.specs.declared.Checked.the-variants as C
 use Rattle.list.proofs.Replies.{checked-refused, checked-accepted}
 use Rattle.translation.specs.Answers.{size-in, Answered}
 use Rattle.translation.specs.Sites.{Known}
-use Rattle.translation.specs.declared.Size.{Size}
-use Rattle.translation.specs.declared.Translated.the-variants as T
+use Rattle.instruction.specs.declared.Size.{Size}
+use Rattle.instruction.specs.declared.Translated.the-variants as T
 use Rattle.list.proofs.Lists.{list-length}
 
 -- It was refused; it has no room; it is written

@@ -7,9 +7,9 @@ use Rattle.theory.specs.ProgramText.{Command}
 use Rattle.theory.specs.TurnedDown.{Answer, done, refused, mapped, lent-after, translate-into}
 use Rattle.tidy.specs.declared.Form.{Form}
 use Rattle.tidy.specs.Forms.{word-in, text-in}
-use Rattle.translation.specs.declared.Size.{Size}
-use Rattle.translation.specs.declared.Translated.{Translated}
-use Rattle.translation.specs.declared.Translated.the-variants as T
+use Rattle.instruction.specs.declared.Size.{Size}
+use Rattle.instruction.specs.declared.Translated.{Translated}
+use Rattle.instruction.specs.declared.Translated.the-variants as T
 
 abbrev pub size-in : Form → List Command → Size
 size-in form p = record { symbols = length (text-in form p); instructions = length (word-in form p) }

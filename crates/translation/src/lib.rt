@@ -4,6 +4,8 @@ mod lines;
 mod sizes;
 mod writing;
 
+pub use instruction::Size;
+pub use instruction::Translated;
 use program::Checked;
 use program::Program;
 use theory::Refusal;
@@ -17,18 +19,6 @@ ghost use Rattle.theory.specs.ProgramText.{commands};
 ghost use Rattle.tidy.specs.Forms.{text-in};
 ghost use Rattle.translation.specs.Answers.{size-in, translated, output, Answered};
 ghost use Rattle.translation.specs.Sites.{Known, Noted};
-
-// The size of a word: its symbols and its instructions.
-pub struct Size {
-    pub symbols: usize,
-    pub instructions: usize,
-}
-
-// A program is translated into a word of a size, or refused by the first rule that applies.
-pub enum Translated {
-    Done(Size),
-    Refused(Refusal),
-}
 
 // The size of a form of the word of an accepted list: F1, the program's block, and what the form adds. The instructions of every body are
 // noted.

@@ -24,7 +24,7 @@ returns : tie.Need-returns
 returns c =
     let c5 = c .before .before .before .before .before in
     let a = c5 .before .before .args in
-    let n = name-there (a .s .now) (a .end + 4) (omega arith) (c5 .name .ensures) (c .before .before .before .last .given .1) in
+    let n = name-there (a .s .now) (a .end + 4) (c5 .name .ensures) (c .before .before .before .last .given .1) in
     λ i f g. c .numbers .ensures ∙ assigned-copy (name-first (a .s .now) (a .end) i (omega arith) f g) n (c .before .if1 .taken)
 
 slice-aggregate-ends : tie.Need-slice-aggregate-ends
@@ -38,7 +38,7 @@ are-one-requires c κs =
     let c5 = c .before .before .before .before .before in
     let c7 = c5 .before .before in
     let a = c7 .before .before .args in
-    let n = name-there (a .s .now) (a .end + 4) (omega arith) (c7 .name .ensures) (c5 .last .given .1) in
+    let n = name-there (a .s .now) (a .end + 4) (c7 .name .ensures) (c5 .last .given .1) in
     (omega arith, (name-room (omega arith) n, n .within))
 
 numbers-requires-2 : tie.Need-numbers-requires-2
@@ -50,7 +50,7 @@ returns-2 c =
     let c8 = c3 .before .before .before .before .before in
     let c10 = c8 .before .before in
     let a = c10 .before .before .args in
-    let n = name-there (a .s .now) (a .end + 4) (omega arith) (c10 .name .ensures) (c8 .last .given .1) in
+    let n = name-there (a .s .now) (a .end + 4) (c10 .name .ensures) (c8 .last .given .1) in
     λ i f g. c .numbers2 .ensures
     ∙ assigned-increment (name-first (a .s .now) (a .end) i (omega arith) f g) n (omega arith) (omega arith) (omega arith)
     (sym (c3 .before .ends .ensures) ∙ c3 .if2 .taken)
@@ -65,7 +65,7 @@ returns-3 c =
     let c7 = c2 .before .before .before .before .before in
     let c9 = c7 .before .before in
     let a = c9 .before .before .args in
-    let n = name-there (a .s .now) (a .end + 4) (omega arith) (c9 .name .ensures) (c7 .last .given .1) in
+    let n = name-there (a .s .now) (a .end + 4) (c9 .name .ensures) (c7 .last .given .1) in
     λ i f g. assigned-other (name-first (a .s .now) (a .end) i (omega arith) f g) n (omega arith) (omega arith) (omega arith)
     (sym (c2 .before .ends .ensures) ∙ c2 .if2 .taken)
     (sym (c .before .are-one .ensures) ∙ c .if3 .left)
@@ -75,7 +75,7 @@ returns-4 c =
     let c5 = c .before .before .before .before .before in
     let c7 = c5 .before .before in
     let a = c7 .before .before .args in
-    let n = name-there (a .s .now) (a .end + 4) (omega arith) (c7 .name .ensures) (c5 .last .given .1) in
+    let n = name-there (a .s .now) (a .end + 4) (c7 .name .ensures) (c5 .last .given .1) in
     λ i f g. assigned-no-back (name-first (a .s .now) (a .end) i (omega arith) f g) n (omega arith)
     (sym (c .before .ends .ensures) ∙ c .if2 .left)
 

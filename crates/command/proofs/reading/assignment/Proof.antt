@@ -1,6 +1,5 @@
 -- `command::assignment` meets its contract: a name, and ` <- 0` or an arrow after it.
 use mathlib.Core.Path.{_∙_, sym}
-use native.Mathlib.Omega.{arith}
 use Rattle.command.proofs.LineNumbers.{name-there, assignment-no-name, assignment-clear, assignment-no-arrow}
 use Rattle.command.proofs.LineNumbers.{assignment-room, assignment-from}
 use borrow.Author.Needs.{needs}
@@ -21,7 +20,7 @@ ends-requires c κs =
     let c4 = c .before .before .before .before in
     let c6 = c4 .before .before in
     let a = c6 .args in
-    let n = name-there (a .s .now) 0 (omega arith) (c4 .name .ensures) (c .before .before .end .given .1) in
+    let n = name-there (a .s .now) 0 (c4 .name .ensures) (c .before .before .end .given .1) in
     n .within
 
 numbers-requires : tie.Need-numbers-requires
@@ -32,20 +31,14 @@ returns c =
     let c5 = c .before .before .before .before .before in
     let c7 = c5 .before .before in
     let a = c7 .before .before .args in
-    let n = name-there (a .s .now) 0 (omega arith) (c7 .name .ensures) (c5 .end .given .1) in
+    let n = name-there (a .s .now) 0 (c7 .name .ensures) (c5 .end .given .1) in
     c .numbers .ensures ∙ assignment-clear (a .s .now) n (sym (c .before .before .ends .ensures) ∙ c .before .if1 .taken)
 
 slice-aggregate-stands : tie.Need-slice-aggregate-stands
 slice-aggregate-stands c = search needs
 
 stands-requires : tie.Need-stands-requires
-stands-requires c κs =
-    let c5 = c .before .before .before .before .before in
-    let c7 = c5 .before .before in
-    let c9 = c7 .before .before in
-    let a = c9 .args in
-    let n = name-there (a .s .now) 0 (omega arith) (c7 .name .ensures) (c5 .end .given .1) in
-    n .within
+stands-requires c κs = search needs
 
 assigned-requires : tie.Need-assigned-requires
 assigned-requires c κs =
@@ -54,7 +47,7 @@ assigned-requires c κs =
     let c9 = c7 .before .before in
     let c11 = c9 .before .before in
     let a = c11 .args in
-    let n = name-there (a .s .now) 0 (omega arith) (c9 .name .ensures) (c7 .end .given .1) in
+    let n = name-there (a .s .now) 0 (c9 .name .ensures) (c7 .end .given .1) in
     assignment-room (a .s .now) n (sym (c4 .ends .ensures) ∙ c .before .before .before .if1 .left)
     (sym (c .before .stands .ensures) ∙ c .if2 .taken)
 
@@ -66,7 +59,7 @@ returns-2 c =
     let c10 = c8 .before .before in
     let c12 = c10 .before .before in
     let a = c12 .args in
-    let n = name-there (a .s .now) 0 (omega arith) (c10 .name .ensures) (c8 .end .given .1) in
+    let n = name-there (a .s .now) 0 (c10 .name .ensures) (c8 .end .given .1) in
     c .assigned .ensures (n .value) (n .is) (n .kept)
     ∙ assignment-from (a .s .now) n (sym (c5 .ends .ensures) ∙ c4 .if1 .left)
     (sym (c .before .before .stands .ensures) ∙ c .before .if2 .taken)
@@ -81,7 +74,7 @@ returns-3 c =
     let c9 = c7 .before .before in
     let c11 = c9 .before .before in
     let a = c11 .args in
-    let n = name-there (a .s .now) 0 (omega arith) (c9 .name .ensures) (c7 .end .given .1) in
+    let n = name-there (a .s .now) 0 (c9 .name .ensures) (c7 .end .given .1) in
     assignment-no-arrow (a .s .now) n (sym (c4 .ends .ensures) ∙ c .before .before .before .if1 .left)
     (sym (c .before .stands .ensures) ∙ c .if2 .left)
 

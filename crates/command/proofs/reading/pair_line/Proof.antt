@@ -1,7 +1,7 @@
 -- `command::pair_line` meets its contract: the front word, a name and the back word, each found or not.
 use mathlib.Core.Path.{_∙_, sym}
 use lib.ListN.{length}
-use Rattle.command.proofs.LineNumbers.{name-there, pair-no-front, pair-front, pair-no-name, pair-back, pair-no-back}
+use Rattle.command.proofs.LineNumbers.{name-there, pair-no-front, pair-no-name, pair-back, pair-no-back}
 use borrow.Author.Needs.{needs}
 use Rattle.command.proofs.reading.pair_line.Statement.{statement}
 use Rattle.command.proofs.reading.pair_line.Tie as tie
@@ -17,12 +17,9 @@ enum-known-end c = search needs
 
 ends-requires : tie.Need-ends-requires
 ends-requires c κs =
-    let c4 = c .before .before .before .before in
-    let c5 = c4 .before in
-    let c9 = c5 .before .before .before .before in
+    let c9 = c .before .before .before .before .before .before .before .before .before in
     let a = c9 .args in
-    (name-there (a .s .now) (length (a .front .now)) (pair-front (a .kind) (a .front .now) (a .back .now) (a .s .now)
-    (sym (c5 .stands .ensures) ∙ c4 .if1 .taken)) (c .before .before .before .name .ensures) (c .before .end .given .1)) .within
+    (name-there (a .s .now) (length (a .front .now)) (c .before .before .before .name .ensures) (c .before .end .given .1)) .within
 
 numbers-requires : tie.Need-numbers-requires
 numbers-requires c κs = search needs
@@ -37,9 +34,7 @@ returns c =
     let front = sym (c8 .stands .ensures) ∙ c7 .if1 .taken in
     c .numbers .ensures
     ∙ pair-back (a .kind) (a .front .now) (a .back .now) (a .s .now) front
-    (name-there (a .s .now) (length (a .front .now)) (pair-front (a .kind) (a .front .now) (a .back .now) (a .s .now) front)
-    (c6 .name .ensures)
-    (c1 .before .before .before .end .given .1))
+    (name-there (a .s .now) (length (a .front .now)) (c6 .name .ensures) (c1 .before .before .before .end .given .1))
     (sym (c1 .before .ends .ensures) ∙ c1 .if2 .taken)
 
 enum-told : tie.Need-enum-told
@@ -53,8 +48,7 @@ returns-2 c =
     let c11 = c7 .before .before .before .before in
     let a = c11 .args in
     pair-no-back (a .kind) (a .front .now) (a .back .now) (a .s .now) (sym (c7 .stands .ensures) ∙ c6 .if1 .taken)
-    (name-there (a .s .now) (length (a .front .now)) (pair-front (a .kind) (a .front .now) (a .back .now) (a .s .now)
-    (sym (c7 .stands .ensures) ∙ c6 .if1 .taken)) (c5 .name .ensures) (c .before .before .before .end .given .1))
+    (name-there (a .s .now) (length (a .front .now)) (c5 .name .ensures) (c .before .before .before .end .given .1))
     (sym (c .before .ends .ensures) ∙ c .if2 .left)
 
 returns-3 : tie.Need-returns-3

@@ -5,9 +5,9 @@ use native.Mathlib.Omega.{arith}
 use borrow.Author.Needs.{needs}
 use lib.ListN.{length, drop, getD, length-drop}
 use lib.Seq.{length-take-le}
-use Rattle.memory.specs.Held.{offsets-of}
+use Rattle.layout.specs.Offsets.{offsets-of}
 use Rattle.memory.specs.Fresh.{fresh-registers}
-use Rattle.memory.proofs.OffsetTable.{table-at, table-after, table-next, table-inside}
+use Rattle.layout.proofs.OffsetTable.{table-at, table-after, table-next, table-inside}
 use Rattle.memory.proofs.Filling.{Filling, filling-none, filling-all, filling-next, fresh-length}
 use Rattle.memory.proofs.fresh.fill.Statement.{statement}
 use Rattle.memory.proofs.fresh.fill.Tie as tie

@@ -4,7 +4,7 @@ use mathlib.Core.Bool.{true}
 use Rattle.theory.specs.Machines.{Memory}
 use Rattle.memory.specs.Calls.{memory}
 use Rattle.memory.specs.Fresh.{can-hold}
-use Rattle.memory.proofs.Rule10.{are-sized}
+use Rattle.rule10.proofs.Sizes.{are-sized}
 use Rattle.memory.proofs.CanHold.{holds-sized, holds-each, lays-none, lays-all}
 use borrow.Author.Needs.{needs}
 use borrow.Author.Tests.{not-true, not-false}

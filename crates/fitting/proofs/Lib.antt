@@ -1,0 +1,3 @@
+pub mod Unpacked
+pub mod Bounds
+pub mod Fitting

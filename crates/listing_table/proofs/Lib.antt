@@ -1,0 +1,4 @@
+pub mod Lines
+pub mod Placing
+pub mod Tabling
+pub mod Filled

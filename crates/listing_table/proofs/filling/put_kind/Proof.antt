@@ -1,0 +1,21 @@
+-- `put_kind` meets its contract: past the end of a list a number set changes nothing.
+use mathlib.Core.Path.{sym}
+use borrow.Author.Needs.{needs}
+use lib.Seq.{set-out}
+use Rattle.listing_table.proofs.filling.put_kind.Statement.{statement}
+use Rattle.listing_table.proofs.filling.put_kind.Tie as tie
+
+slice-write-kinds : tie.Need-slice-write-kinds
+slice-write-kinds c = search needs
+
+same-length : tie.Need-same-length
+same-length c = search needs
+
+returns : tie.Need-returns
+returns c = search needs
+
+returns-2 : tie.Need-returns-2
+returns-2 c = sym (set-out _ _ _ (c .if1 .left))
+
+pub put-kind-spec : {M : Type 1} → statement M
+put-kind-spec = tie.close (tie.spec slice-write-kinds same-length returns returns-2)
