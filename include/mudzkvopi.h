@@ -1,5 +1,5 @@
 /*
- * mudzkvopi.h: LOOP/WHILE programs, their 1# words, and runs of both. Version 5.
+ * mudzkvopi.h: LOOP/WHILE programs, scan-and-delete listings, their 1# words, and runs. Version 6.
  *
  * A host that translates a program, runs its word and shows its value (the tests compile and run
  * it):
@@ -45,9 +45,9 @@
  *
  * Link with libhost.a (x86-64, C99 or C++), which itself needs memcpy and memset and nothing else.
  * Every call checks what it is given, ends, and is proved to answer by the definitions in
- * crates/theory/specs/; no proof covers this header. There is no state between calls, no
- * allocation, no global and no file: calls may run in any threads at the same time, as long as no
- * two of them are lent the same memory.
+ * crates/theory/specs/ and, for listings, crates/listing/specs/; no proof covers this header. There
+ * is no state between calls, no allocation, no global and no file: calls may run in any threads at
+ * the same time, as long as no two of them are lent the same memory.
  *
  * Memory that you lend. A slice is a pointer and the number of its elements (not bytes). A pointer
  * is never NULL, also where its number is 0, and is aligned for its type. A slice that a call may
@@ -88,18 +88,20 @@
 extern "C" {
 #endif
 
-#define MUDZKVOPI_VERSION 5
+#define MUDZKVOPI_VERSION 6
 
 /*
  * Stack, in bytes, for each call. These are measured, not proved: tests/stack.c calls each with the
- * deepest and longest program that is accepted and its word, and the tests fail where a call takes
- * more. mudzkvopi_run_word reads the word into its own stack; mudzkvopi_run_table copies nothing;
- * mudzkvopi_report_on has the word and a machine of its own there.
+ * deepest and longest program that is accepted and its word, or with the listing of the longest
+ * word, and the tests fail where a call takes more. mudzkvopi_run_word reads the word into its own
+ * stack; mudzkvopi_run_table copies nothing; mudzkvopi_report_on has the word and a machine of its
+ * own there.
  */
 #define MUDZKVOPI_STACK_READ_PROGRAM 4096
 #define MUDZKVOPI_STACK_WRITE_PROGRAM 1024
 #define MUDZKVOPI_STACK_TRANSLATE 8192
 #define MUDZKVOPI_STACK_TRANSLATE_LIST 6144
+#define MUDZKVOPI_STACK_TRANSLATE_LISTING 8192
 #define MUDZKVOPI_STACK_RUN_SOURCE 6144
 #define MUDZKVOPI_STACK_RUN_SOURCE_LIST 4096
 #define MUDZKVOPI_STACK_READ_WORD 1024
@@ -146,14 +148,17 @@ enum mudzkvopi_what {
  * whole text by 1, 2 and 3; then line after line, each by 4, 5, 20, 6 and 7 before the next one is
  * looked at; then 8, and last 19. Lines count from 1, and the commands of a list are its lines. 20
  * applies under the setting MUDZKVOPI_LOOP_ONLY alone. 16 to 18 and 21 are those of a report, which
- * prints them, as the run tool does: no call answers with them.
+ * prints them, as the run tool does: no call answers with them. 22 is that of a listing, for which
+ * 3 and 4 have a limit and spellings of their own.
  */
 enum mudzkvopi_rule {
     MUDZKVOPI_TEXT_TOO_LONG = 1,   /* the text is over 16384 bytes (place 0) */
     MUDZKVOPI_NO_LAST_LF = 2,      /* the text has bytes and its last isn't LF (the last line) */
-    MUDZKVOPI_TOO_MANY_LINES = 3,  /* there are more than 512 lines (513) */
+    MUDZKVOPI_TOO_MANY_LINES = 3,  /* there are more than 512 lines (513); of a listing more than
+                                      256 (257) */
     MUDZKVOPI_NO_COMMAND = 4,      /* a line is none of the spellings, such as one with X3' or X07;
-                                      a list's command is none, or is cut short (the line) */
+                                      a list's command is none, or is cut short; a listing's line is
+                                      none of its own, such as P1 65 or Scd 1 01 1 (the line) */
     MUDZKVOPI_INDEX_TOO_HIGH = 5,  /* an index is above 31, in digits or in primes (the line) */
     MUDZKVOPI_TOO_DEEP = 6,        /* a pair opens with 16 open (the line) */
     MUDZKVOPI_NO_MATCH = 7,        /* a closing line doesn't match the innermost open pair, or none
@@ -179,17 +184,20 @@ enum mudzkvopi_rule {
     MUDZKVOPI_NO_ROOM = 19,        /* a lent output is shorter than the result (0) */
     MUDZKVOPI_NO_WHILE = 20,       /* a `while` or `endwhile` line under the setting
                                       MUDZKVOPI_LOOP_ONLY (the line) */
-    MUDZKVOPI_SHORT_REGISTER = 21  /* a scratch or counter register that the word names has less
+    MUDZKVOPI_SHORT_REGISTER = 21, /* a scratch or counter register that the word names has less
                                       capacity than the largest of a variable (0) */
+    MUDZKVOPI_NO_TARGET = 22       /* a target of a listing's line is outside 1 to the number of
+                                      lines plus 1 (the line) */
 };
 
 /* Limits. An output of the size given here has room for every result. */
-#define MUDZKVOPI_MAX_TEXT 16384        /* bytes of a program's text */
+#define MUDZKVOPI_MAX_TEXT 16384        /* bytes of a program's text, or of a listing's */
 #define MUDZKVOPI_MAX_LINES 512         /* lines, or commands */
+#define MUDZKVOPI_MAX_LISTING_LINES 256 /* lines of a listing */
 #define MUDZKVOPI_MAX_INDEX 31          /* of a variable */
 #define MUDZKVOPI_MAX_OPEN 16           /* pairs open together */
 #define MUDZKVOPI_MAX_LIST 1536         /* numbers of a program's list */
-#define MUDZKVOPI_MAX_WORD 600000       /* symbols of a word; no program's word is longer */
+#define MUDZKVOPI_MAX_WORD 600000       /* symbols of a word; no program's or listing's is longer */
 #define MUDZKVOPI_MAX_INSTRUCTIONS 8192 /* of a word */
 #define MUDZKVOPI_MAX_REGISTERS 64      /* of a machine */
 #define MUDZKVOPI_MAX_CAPACITY 1024     /* symbols in a register, or the value of a variable */
@@ -263,6 +271,27 @@ uint64_t mudzkvopi_translate(
 uint64_t mudzkvopi_translate_list(
     uint32_t setting, uint32_t form, const uint8_t *list, size_t list_len, uint8_t *word,
     size_t word_len);
+
+/*
+ * Listings of the 1963 register machine. Each line of a text is "P1 n", "P# n" or "Scd n e f", with
+ * single blanks, and ends in LF; the text may be empty. The register n is 1 to 64, and no number
+ * has a leading zero. P1 and P# append '1' and '#' to register n. Scd goes to the next line where
+ * register n is empty; else it deletes the first symbol, and goes to line e if that was '1' and to
+ * line f if it was '#'. The line after the last is halted, and may be a target. The word begins
+ * with 1###, as a program's does; then it has an append for each P line, and for each Scd cases on
+ * n, 3 forward, and two transfers to the targets. On unlimited registers with equal contents a
+ * listing halts exactly when its word does, with the same symbols in all registers, and the word's
+ * steps are 1, and 1 for each P line done and 2 for each Scd done (claim DemandOfAccepted). A
+ * machine of 64 registers takes every listing's word (claim ListingWordsFit). No call runs the
+ * listing itself: mudzkvopi_run_word runs its word.
+ */
+
+/*
+ * Translates a listing into its word. It takes no setting and no form. DONE: HIGH its instructions,
+ * LOW its symbols. Rules 1, 2, 3; each line by 4, 22; 19.
+ */
+uint64_t mudzkvopi_translate_listing(
+    const uint8_t *text, size_t text_len, uint8_t *word, size_t word_len);
 
 /*
  * Runs of a program. A state is 82 numbers. A fresh state has capacities of 1 to 1024 for the

@@ -1,7 +1,8 @@
 /*
  * A host of the library in C: translates a program, prints its word as the label has it, runs the program and the word, and prints the
  * counts of both. Then the same from a list, a table run twice, a budget cut in two, a run that is full, names in primes, values and the
- * tidy form, registers of unequal length, reports, the LOOP-only setting, and refusals. What it writes is held to host-expected.txt.
+ * tidy form, registers of unequal length, reports, listings, the LOOP-only setting, and refusals. What it writes is held to
+ * host-expected.txt.
  */
 #include <inttypes.h>
 #include <stdio.h>
@@ -266,6 +267,50 @@ static void reports(void)
     report("X0 <- X1\n", "X0 X1\n2 3\n", REGISTERS, 12);
 }
 
+static uint64_t translate_listing(const char *text, size_t room)
+{
+    return mudzkvopi_translate_listing((const uint8_t *)text, strlen(text), word, room);
+}
+
+/*
+ * A listing that moves register 2 to the end of register 1: its word, and a run of that from # and 1#. Then the empty listing, one without
+ * room, which leaves the word as it was, and what else is refused.
+ */
+static void listings(void)
+{
+    static const char moves[] = "P1 3\nScd 3 7 7\nP1 1\nP1 3\nScd 3 7 7\nP# 1\nScd 2 3 6\n";
+    static char many[5 * (MUDZKVOPI_MAX_LISTING_LINES + 1) + 1];
+    uint64_t translated = translate_listing(moves, sizeof word);
+    int32_t place = 1;
+    uint32_t steps = 0;
+
+    print_result("translate_listing", translated);
+    printf("%.*s\n", (int)MUDZKVOPI_LOW(translated), (const char *)word);
+    fresh_machine(CAPACITY, 1, 1);
+    store[0] = store[CAPACITY + 1] = '#';
+    lengths[0] = 1;
+    lengths[1] = 2;
+    print_result("word", mudzkvopi_run_word(capacities, REGISTERS, store, sizeof store, lengths, REGISTERS, &place, &steps, word,
+        MUDZKVOPI_LOW(translated), 1000000));
+    printf("register 1 has %.*s, registers 2 and 3 have %u and %u symbols, place %" PRId32 "\n", (int)lengths[0], (const char *)store,
+        (unsigned)lengths[1], (unsigned)lengths[2], place);
+    memset(word, '?', 4);
+    print_result("no room for the word of an empty listing", translate_listing("", 3));
+    printf("%.4s\n", (const char *)word);
+    print_result("an empty listing", translate_listing("", 4));
+    printf("%.4s\n", (const char *)word);
+    for (size_t i = 0; i <= MUDZKVOPI_MAX_LISTING_LINES; i++)
+        memcpy(many + 5 * i, "P1 1\n", 5);
+    print_result("257 lines", translate_listing(many, sizeof word));
+    many[5 * MUDZKVOPI_MAX_LISTING_LINES] = 0;
+    print_result("256 lines", translate_listing(many, sizeof word));
+    print_result("no last LF", translate_listing("P1 1\nP# 2", sizeof word));
+    print_result("register 65", translate_listing("P1 64\nP1 65\n", sizeof word));
+    print_result("target 0", translate_listing("P1 1\nScd 1 0 1\n", sizeof word));
+    print_result("the line after the last", translate_listing("P1 1\nScd 1 3 3\n", sizeof word));
+    print_result("one line more", translate_listing("P1 1\nScd 1 1 4\n", sizeof word));
+}
+
 /*
  * Every call that is given a program, under a setting: a program with a `while` in its second line, as text and as list, and what became
  * of the lent memory; then a LOOP program.
@@ -351,6 +396,7 @@ int main(void)
     unequal(3);
     unequal(4);
     reports();
+    listings();
     lesson(MUDZKVOPI_ANY);
     lesson(MUDZKVOPI_LOOP_ONLY);
     lesson(7); /* counts as LOOP-only */

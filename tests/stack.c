@@ -1,8 +1,8 @@
 /*
  * The stack that each entry takes, held to what the header promises: it is called on a thread whose stack was painted, and the bytes that
  * are no longer paint are counted, less the same count for an entry that does nothing. The inputs are the deepest and longest that are
- * accepted: 16 loops around 480 copies, and its tidy word of 312,067 symbols; and for a report 16 loops around 90 too, whose word has room
- * in its buffer.
+ * accepted: 16 loops around 480 copies, and its tidy word of 312,067 symbols; for a report 16 loops around 90 too, whose word has room in
+ * its buffer; and the listing of 256 lines whose word has 414,212 symbols.
  */
 #define _GNU_SOURCE
 #include <pthread.h>
@@ -15,8 +15,8 @@
 #define STACK (1 << 20)
 #define PAINT 0xa5
 
-static char text[MUDZKVOPI_MAX_TEXT], shorter[MUDZKVOPI_MAX_TEXT];
-static size_t text_len, shorter_len;
+static char text[MUDZKVOPI_MAX_TEXT], shorter[MUDZKVOPI_MAX_TEXT], listing[MUDZKVOPI_MAX_TEXT];
+static size_t text_len, shorter_len, listing_len;
 static uint8_t word[MUDZKVOPI_MAX_WORD], back[MUDZKVOPI_MAX_WORD];
 static size_t word_len, count;
 static uint8_t list[MUDZKVOPI_MAX_LIST], kinds[MUDZKVOPI_MAX_INSTRUCTIONS], bytes[MUDZKVOPI_MAX_TEXT];
@@ -40,6 +40,7 @@ static void translate_list(void)
     mudzkvopi_translate_list(MUDZKVOPI_ANY, MUDZKVOPI_PLAIN, list, sizeof list, word, sizeof word);
     mudzkvopi_translate_list(MUDZKVOPI_ANY, MUDZKVOPI_TIDY, list, sizeof list, word, sizeof word);
 }
+static void translate_listing(void) { mudzkvopi_translate_listing((uint8_t *)listing, listing_len, back, sizeof back); }
 static void run_source(void)
 {
     mudzkvopi_run_source(MUDZKVOPI_ANY, (uint8_t *)text, text_len, state, MUDZKVOPI_STATE_NUMBERS, 1000);
@@ -105,6 +106,18 @@ static size_t nested(char *into, int copies)
     return len;
 }
 
+/* As many lines as a listing may have, each with the further of the first line and of the one after the last; the length. */
+static size_t scanning(char *into)
+{
+    size_t len = 0;
+
+    for (int i = 1; i <= MUDZKVOPI_MAX_LISTING_LINES; i++) {
+        int target = i <= MUDZKVOPI_MAX_LISTING_LINES / 2 ? MUDZKVOPI_MAX_LISTING_LINES + 1 : 1;
+        len += (size_t)sprintf(into + len, "Scd 64 %d %d\n", target, target);
+    }
+    return len;
+}
+
 int main(void)
 {
     struct { const char *name; void (*entry)(void); size_t most; } entries[] = {
@@ -112,6 +125,7 @@ int main(void)
         { "write_program", write_program, MUDZKVOPI_STACK_WRITE_PROGRAM },
         { "translate", translate, MUDZKVOPI_STACK_TRANSLATE },
         { "translate_list", translate_list, MUDZKVOPI_STACK_TRANSLATE_LIST },
+        { "translate_listing", translate_listing, MUDZKVOPI_STACK_TRANSLATE_LISTING },
         { "run_source", run_source, MUDZKVOPI_STACK_RUN_SOURCE },
         { "run_source_list", run_source_list, MUDZKVOPI_STACK_RUN_SOURCE_LIST },
         { "read_word", read_word, MUDZKVOPI_STACK_READ_WORD },
@@ -126,6 +140,7 @@ int main(void)
 
     text_len = nested(text, 480);
     shorter_len = nested(shorter, 90);
+    listing_len = scanning(listing);
     for (int i = 0; i < 32; i++)
         state[MUDZKVOPI_STATE_CAPACITIES + i] = 1024;
     for (int r = 0; r < 64; r++)
@@ -134,7 +149,7 @@ int main(void)
     state[MUDZKVOPI_STATE_VALUES + 31] = 5;
     for (size_t i = 0; i < sizeof entries / sizeof *entries; i++) {
         size_t bytes = stack_of(entries[i].entry) - base;
-        printf("%-16s %6zu bytes, of %6zu in the header\n", entries[i].name, bytes, entries[i].most);
+        printf("%-17s %6zu bytes, of %6zu in the header\n", entries[i].name, bytes, entries[i].most);
         too_much |= bytes > entries[i].most;
     }
     return too_much;

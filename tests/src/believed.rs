@@ -21,7 +21,7 @@ struct Import {
 }
 
 fn imports(text: &str) -> Vec<Import> {
-    let lines = text.lines().filter_map(|l| l.trim_start_matches("ghost ").strip_prefix("use "));
+    let lines = text.lines().filter_map(|l| l.trim_start_matches("ghost ").trim_start_matches("pub ").strip_prefix("use "));
     lines
         .filter_map(|line| {
             let spec = spec_of(line)?;

@@ -8,7 +8,7 @@ use crate::program::{self, list, variables, write, Command, Setting};
 use crate::source::{self, State};
 use crate::translation::{translate, Form};
 use crate::word::{self, spell, Instruction};
-use crate::{refuse, tool, Answer, Refusal};
+use crate::{listing, refuse, tool, Answer, Refusal};
 use std::fmt;
 use std::iter::successors;
 
@@ -84,6 +84,7 @@ impl Program {
 pub enum Case {
     Convert { setting: u32, program: Program, lent: usize },
     Translate { setting: u32, form: u32, program: Program, lent: usize },
+    Listing { text: Vec<u8>, lent: usize },
     RunSource { setting: u32, program: Program, state: Vec<u32>, budget: u32 },
     ReadWord { word: Vec<u8>, kinds: usize, operands: usize },
     WriteWord { kinds: Vec<u8>, operands: Vec<u32>, lent: usize },
@@ -101,6 +102,7 @@ impl fmt::Debug for Case {
             Case::Translate { setting, form, program, lent } => {
                 write!(f, "setting {setting}, form {form}, {program:?}, lent {lent}")
             }
+            Case::Listing { text, lent } => write!(f, "\"{}\", lent {lent}", text.escape_ascii()),
             Case::RunSource { setting, program, state, budget } => {
                 write!(f, "setting {setting}, {program:?}, state {state:?}, budget {budget}")
             }
@@ -154,6 +156,12 @@ fn written(result: Result<Vec<u8>, Refusal>, lent: usize, high: usize, low: usiz
         }
         Err(r) => Outcome { answer: Answer::Refused(r), memory: output(lent, &[]) },
     }
+}
+
+/// A word for a lent output: its instructions and its symbols.
+fn translated(word: Result<Vec<Instruction>, Refusal>, lent: usize) -> Outcome {
+    let instructions = word.as_ref().map_or(0, |t| t.len());
+    written(word.map(|t| spell(&t)), lent, instructions, 1)
 }
 
 fn memory(machine: &Machine) -> Vec<u32> {
@@ -237,6 +245,7 @@ impl Case {
             Case::Convert { program: Program::List(_), .. } => "write a list",
             Case::Translate { program: Program::Text(_), .. } => "translate a text",
             Case::Translate { program: Program::List(_), .. } => "translate a list",
+            Case::Listing { .. } => "translate a listing",
             Case::RunSource { program: Program::Text(_), .. } => "run a text",
             Case::RunSource { program: Program::List(_), .. } => "run a list",
             Case::ReadWord { .. } => "read a word",
@@ -260,10 +269,9 @@ impl Case {
                 written(program.converted(setting), *lent, high, low)
             }
             Case::Translate { setting, form, program, lent } => {
-                let table = program.read(setting_of(*setting)).map(|c| translate(form_of(*form), &c));
-                let high = table.as_ref().map_or(0, |t| t.len());
-                written(table.map(|t| spell(&t)), *lent, high, 1)
+                translated(program.read(setting_of(*setting)).map(|c| translate(form_of(*form), &c)), *lent)
             }
+            Case::Listing { text, lent } => translated(listing::read(text).map(|l| listing::word(&l)), *lent),
             Case::RunSource { setting, program, state, budget } => run_source(setting_of(*setting), program, state, *budget),
             Case::ReadWord { word, kinds, operands } => read_word(word, *kinds, *operands),
             Case::WriteWord { kinds, operands, lent } => {
@@ -304,6 +312,7 @@ impl Case {
                 Program::Text(text) => library::translate(*setting, *form, text, out),
                 Program::List(list) => library::translate_list(*setting, *form, list, out),
             }),
+            Case::Listing { text, lent } => bytes(*lent, &|out| library::translate_listing(text, out)),
             Case::RunSource { setting, program, state, budget } => {
                 let mut memory = state.clone();
                 let answer = match program {
@@ -339,6 +348,10 @@ impl Case {
                 let with = |form| move |(setting, program, lent): (u32, Program, usize)| Case::Translate { setting, form, program, lent };
                 let forms = less(*form as usize).map(move |form| with(form as u32)((*setting, program.clone(), *lent)));
                 Box::new(with_less(*setting, program, *lent).map(with(*form)).chain(forms))
+            }
+            Case::Listing { text, lent } => {
+                let texts = shorter(text).map(|text| Case::Listing { text, lent: *lent });
+                Box::new(texts.chain(less(*lent).map(|lent| Case::Listing { text: text.clone(), lent })))
             }
             Case::RunSource { setting, program, state, budget } => {
                 let calls = with_less(*setting, program, *budget as usize);
@@ -395,6 +408,21 @@ impl Case {
             }
         }
     }
+}
+
+/// What comes of a case that isn't the run tool's.
+#[cfg(not(feature = "library"))]
+pub fn outcome(case: &Case) -> Outcome {
+    case.twin()
+}
+
+/// The same on the library, with which the twin agrees.
+#[cfg(feature = "library")]
+pub fn outcome(case: &Case) -> Outcome {
+    thread_local!(static TOOL: RunTool = RunTool::new("outcome"));
+    let outcome = TOOL.with(|tool| case.library(tool));
+    assert_eq!(outcome, case.twin(), "{case:?}");
+    outcome
 }
 
 /// What is left when one piece is cut out, largest pieces first.

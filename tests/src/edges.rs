@@ -1,5 +1,7 @@
 //! Cases at the limits: the last thing that each rule lets pass and the first that it turns down, alone and with faults of other rules.
 
+pub mod listings;
+
 use crate::machine::{self, Machine};
 use crate::program::{self, list, read, variables, Command, Kind, Setting};
 use crate::source::{self, State};

@@ -1,11 +1,12 @@
-//! The twin: document 01 and requests 1 to 3 and 5 of document 02 once more in plain Rust, separate code, written from documents 01 and 02
-//! by the same hand as the definitions and after them. The library is held against it.
+//! The twin: document 01 and requests 1 to 3, 5 and 6 of document 02 once more in plain Rust, separate code, written from documents 01
+//! and 02 by the same hand as the definitions and after them. The library is held against it.
 
 pub mod believed;
 pub mod cases;
 pub mod edges;
 #[cfg(feature = "library")]
 pub mod library;
+pub mod listing;
 pub mod machine;
 pub mod page;
 pub mod program;

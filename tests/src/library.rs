@@ -12,6 +12,7 @@ extern "C" {
     fn mudzkvopi_write_program(setting: u32, list: *const u8, list_len: usize, text: *mut u8, text_len: usize) -> u64;
     fn mudzkvopi_translate(setting: u32, form: u32, text: *const u8, text_len: usize, word: *mut u8, word_len: usize) -> u64;
     fn mudzkvopi_translate_list(setting: u32, form: u32, list: *const u8, list_len: usize, word: *mut u8, word_len: usize) -> u64;
+    fn mudzkvopi_translate_listing(text: *const u8, text_len: usize, word: *mut u8, word_len: usize) -> u64;
     fn mudzkvopi_run_source(setting: u32, text: *const u8, text_len: usize, state: *mut u32, state_len: usize, budget: u32) -> u64;
     fn mudzkvopi_run_source_list(setting: u32, list: *const u8, list_len: usize, state: *mut u32, state_len: usize, budget: u32) -> u64;
     fn mudzkvopi_read_word(
@@ -111,6 +112,10 @@ pub fn translate(setting: u32, form: u32, text: &[u8], word: &mut [u8]) -> Answe
 
 pub fn translate_list(setting: u32, form: u32, list: &[u8], word: &mut [u8]) -> Answer {
     unpack(unsafe { mudzkvopi_translate_list(setting, form, list.as_ptr(), list.len(), word.as_mut_ptr(), word.len()) })
+}
+
+pub fn translate_listing(text: &[u8], word: &mut [u8]) -> Answer {
+    unpack(unsafe { mudzkvopi_translate_listing(text.as_ptr(), text.len(), word.as_mut_ptr(), word.len()) })
 }
 
 pub fn run_source(setting: u32, text: &[u8], state: &mut [u32], budget: u32) -> Answer {

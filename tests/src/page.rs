@@ -35,8 +35,8 @@ fn times(text: &str) -> (usize, &str) {
     (count.parse().expect("a count"), rest)
 }
 
-/// `untidy`, `length` and a value's, `halted` or `full` and the steps, or the number and place of a refusal; what is said of the example
-/// may stand behind it.
+/// `untidy`, `length` and a value's, `word` and its instructions and symbols, `halted` or `full` and the steps, or the number and place of
+/// a refusal; what is said of the example may stand behind it.
 fn answer(text: &str) -> Answer {
     let mut words = text.split_whitespace();
     let first = words.next().expect("an answer");
@@ -44,6 +44,7 @@ fn answer(text: &str) -> Answer {
     match first {
         "untidy" => Answer::Untidy,
         "length" => Answer::Done { high: 0, low: number() },
+        "word" => Answer::Done { high: number(), low: number() },
         "halted" => Answer::Ended(End::Halted, number()),
         "full" => Answer::Ended(End::Full, number()),
         rule => Answer::Refused(Refusal { number: rule.parse().expect("a rule"), place: number() as usize }),
@@ -201,6 +202,10 @@ impl Example {
                 vec![Case::ReportOn { text: text(), sheet: self.texts[1].clone(), capacities, lent: REPORT_BYTES }]
             }
             "translate" => translations(PLAIN, Program::Text(text()), numbers[0]),
+            "listing" => {
+                let lent = numbers.first().map_or(600_000, |&n| n as usize);
+                vec![Case::Listing { text: text(), lent }]
+            }
             "tidy" => translations(TIDY, Program::Text(text()), numbers[0]),
             other => panic!("{other} is no kind of example"),
         }

@@ -109,9 +109,14 @@ pub fn value(digits: &[u8]) -> u64 {
     digits.iter().fold(0, |n: u64, d| n.saturating_mul(10).saturating_add(u64::from(d - b'0')))
 }
 
-fn whole_name(text: &[u8], back: &[u8]) -> Option<u64> {
-    let (digits, rest) = name(text)?;
+/// The number at the front of a text of which nothing is left but `back`.
+pub fn whole(front: Front, back: &[u8]) -> Option<u64> {
+    let (digits, rest) = front?;
     (rest == back).then(|| value(&digits))
+}
+
+fn whole_name(text: &[u8], back: &[u8]) -> Option<u64> {
+    whole(name(text), back)
 }
 
 /// The command that a line spells, if it is one of the spellings.
@@ -174,8 +179,8 @@ pub fn check(setting: Setting, lines: &[Option<Command>]) -> Result<Vec<Command>
     }
 }
 
-/// A text, by rules 1 to 8 and 20.
-pub fn read(setting: Setting, text: &[u8]) -> Result<Vec<Command>, Refusal> {
+/// The lines of a text, by rules 1 and 2.
+pub fn lines(text: &[u8]) -> Result<Vec<&[u8]>, Refusal> {
     if text.len() > BYTES {
         return refuse(1, 0);
     }
@@ -183,8 +188,13 @@ pub fn read(setting: Setting, text: &[u8]) -> Result<Vec<Command>, Refusal> {
     if text.last().is_some_and(|&b| b != b'\n') {
         return refuse(2, feeds + 1);
     }
-    let lines: Vec<_> = text.split(|&b| b == b'\n').take(feeds).map(command).collect();
-    check(setting, &lines)
+    Ok(text.split(|&b| b == b'\n').take(feeds).collect())
+}
+
+/// A text, by rules 1 to 8 and 20.
+pub fn read(setting: Setting, text: &[u8]) -> Result<Vec<Command>, Refusal> {
+    let commands: Vec<_> = lines(text)?.into_iter().map(command).collect();
+    check(setting, &commands)
 }
 
 /// A list of three numbers a command, by rules 3 to 8 and 20.

@@ -1,13 +1,19 @@
-//! Cases by chance, the same for the same seed: programs, words, states, sheets, and damage to them.
+//! Cases by chance, the same for the same seed: programs, listings, words, states, sheets, and damage to them.
 
 use crate::cases::{form_of, ANY, LOOP_ONLY, PLAIN, TIDY};
-use crate::edges::{NEARLY, OTHER_FORMS, OTHER_SETTINGS};
+use crate::edges::{listings, NEARLY, OTHER_FORMS, OTHER_SETTINGS};
+use crate::listing::{self, Line};
 use crate::machine::{self, Machine};
-use crate::program::{list, variables, write, Command, Kind, Setting, OPEN};
+use crate::program::{self, list, variables, write, Command, Kind, Setting, OPEN};
 use crate::source::{self, State};
 use crate::spellings::{digits, primes, respelled};
 use crate::translation::translate;
 use crate::word::{spell, Instruction};
+
+/// So many cases by chance, or as many as ROUNDS says.
+pub fn rounds(usual: usize) -> usize {
+    std::env::var("ROUNDS").ok().and_then(|n| n.parse().ok()).unwrap_or(usual)
+}
 
 /// A generator of 64-bit numbers (splitmix64).
 pub struct Random(u64);
@@ -83,13 +89,18 @@ impl Random {
         commands
     }
 
-    fn sized_program(&mut self, setting: Setting) -> Vec<Command> {
-        let lines = match self.below(12) {
+    /// Mostly few, sometimes at or past the limit.
+    fn lines(&mut self, limit: usize) -> usize {
+        match self.below(12) {
             0 => 0,
-            1 => self.near(40, 512),
+            1 => self.near(40, limit),
             2 => 1,
             _ => 1 + self.below(14),
-        };
+        }
+    }
+
+    fn sized_program(&mut self, setting: Setting) -> Vec<Command> {
+        let lines = self.lines(program::LINES);
         let names = if self.once_in(6) { 32 } else { 1 + self.below(5) };
         let mut commands = self.program(setting, lines, names);
         if self.once_in(20) {
@@ -167,23 +178,76 @@ impl Random {
     pub fn text(&mut self, setting: Setting) -> Vec<u8> {
         let written = write(&self.sized_program(setting));
         let mut text = self.respell(&written);
-        if self.once_in(3) {
-            let times = 1 + self.below(3);
-            for _ in 0..times {
-                self.damage(&mut text, b"X0123456789'' <-+1=!loopendwhile\n\r\t\0\xff");
-            }
-        }
-        if self.once_in(10) {
-            let line = self.pick(&NEARLY);
-            self.insert_line(&mut text, line);
-        }
         if self.once_in(20) {
             let line = self.large_increment();
             self.insert_line(&mut text, &line);
         }
-        if self.once_in(40) {
-            text.resize(self.near(16_384, 16_384), b'\n');
+        self.spoil(&mut text, b"X0123456789'' <-+1=!loopendwhile\n\r\t\0\xff", &NEARLY);
+        text
+    }
+
+    /// A text of lines damaged with these bytes, with one of these lines more, or of another size; or as it was.
+    fn spoil(&mut self, text: &mut Vec<u8>, with: &[u8], nearly: &[&str]) {
+        if self.once_in(3) {
+            let times = 1 + self.below(3);
+            for _ in 0..times {
+                self.damage(text, with);
+            }
         }
+        if self.once_in(10) {
+            let line = self.pick(nearly);
+            self.insert_line(text, line);
+        }
+        if self.once_in(40) {
+            text.resize(self.near(program::BYTES, program::BYTES), b'\n');
+        }
+    }
+
+    /// A listing of so many lines, with targets among them or behind the last, and registers up to `registers`.
+    pub fn listing(&mut self, lines: usize, registers: usize) -> Vec<Line> {
+        let line = |_| {
+            let register = 1 + self.below(registers);
+            if self.once_in(2) {
+                return Line::Print { symbol: self.pick(b"1#"), register };
+            }
+            let mut target = || 1 + self.below(lines + 1) as u64;
+            Line::Scan { register, on_one: target(), on_hash: target() }
+        };
+        (0..lines).map(line).collect()
+    }
+
+    /// A line for a listing of so many lines, of which one number is at or past a limit, or no numeral.
+    fn odd_line(&mut self, lines: usize) -> String {
+        let limits = [machine::REGISTERS, lines + 1, lines + 1];
+        let mut numbers = limits.map(|limit| (1 + self.below(limit)).to_string());
+        let at = self.below(3);
+        numbers[at] = match self.below(8) {
+            0 => limits[at].to_string(),
+            1 | 2 => (limits[at] + 1).to_string(),
+            3 => "0".into(),
+            4 => format!("0{}", numbers[at]),
+            5 => numbers[at].repeat(9),
+            6 => self.pick(&["4294967297", "18446744073709551617"]).into(),
+            _ => self.pick(&["x", ""]).into(),
+        };
+        let [n, e, f] = numbers;
+        match self.below(8) {
+            0 => format!("P1 {n}"),
+            1 => format!("P# {n}"),
+            _ => format!("Scd {n} {e} {f}"),
+        }
+    }
+
+    /// A listing's text, damaged or not.
+    pub fn listing_text(&mut self) -> Vec<u8> {
+        let lines = self.lines(listing::LINES);
+        let registers = if self.once_in(6) { machine::REGISTERS } else { 1 + self.below(5) };
+        let mut text = listing::write(&self.listing(lines, registers));
+        if self.once_in(2) {
+            let line = self.odd_line(lines + 1);
+            self.insert_line(&mut text, &line);
+        }
+        self.spoil(&mut text, b"P1#Scd  0123456789\n\r\t\0\xff", &listings::NEARLY);
         text
     }
 
@@ -397,6 +461,20 @@ impl Random {
         let marks = usize::from(self.once_in(5));
         let contents: Vec<_> = capacities[..k].iter().map(|&c| self.symbols(c.into(), marks)).collect();
         (spell(&translate(form_of(self.form()), &commands)), Machine::fresh(&capacities, &contents))
+    }
+
+    /// What so many registers hold to start with: at most so many symbols, some of them #.
+    pub fn contents(&mut self, registers: usize, most: usize) -> Vec<Vec<u8>> {
+        (0..registers).map(|_| self.symbols(most, 3)).collect()
+    }
+
+    /// The word of a listing, and a machine that starts it, with both symbols in its registers.
+    pub fn listed(&mut self) -> (Vec<u8>, Machine) {
+        let lines = self.below(14);
+        let registers = 1 + self.below(4);
+        let word = spell(&listing::word(&self.listing(lines, registers)));
+        let capacity = self.capacity();
+        (word, Machine::alike(registers, capacity, &self.contents(registers, capacity)))
     }
 
     /// A sheet for a program of `k` variables on these registers, damaged or not.

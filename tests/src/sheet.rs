@@ -1,6 +1,6 @@
 //! Run sheets: rules 16 to 18. Names have either spelling, values are in digits.
 
-use crate::program::{name, numeral, value, Front};
+use crate::program::{name, numeral, whole, Front};
 use crate::{refuse, Refusal};
 
 pub const BYTES: usize = 4_096;
@@ -16,11 +16,7 @@ fn fields(line: &[u8]) -> Vec<&[u8]> {
 }
 
 fn read_all(line: &[u8], one: fn(&[u8]) -> Front<'_>) -> Option<Vec<u64>> {
-    let whole = |field: &[u8]| match one(field) {
-        Some((digits, b"")) => Some(value(&digits)),
-        _ => None,
-    };
-    fields(line).into_iter().map(whole).collect()
+    fields(line).into_iter().map(|field| whole(one(field), b"")).collect()
 }
 
 /// The rows of a sheet for a program of `variables` variables, each of which has its capacity.

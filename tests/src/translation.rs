@@ -11,15 +11,15 @@ pub enum Form {
     Tidy,
 }
 
-fn cases(a: usize) -> Instruction {
+pub fn cases(a: usize) -> Instruction {
     Instruction { kind: 5, operand: a as u32 }
 }
 
-fn forward(n: usize) -> Instruction {
+pub fn forward(n: usize) -> Instruction {
     Instruction { kind: 3, operand: n as u32 }
 }
 
-fn backward(n: usize) -> Instruction {
+pub fn backward(n: usize) -> Instruction {
     Instruction { kind: 4, operand: n as u32 }
 }
 

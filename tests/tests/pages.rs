@@ -7,7 +7,7 @@ use twin::page::{self, Example};
 use twin::program::{read, Setting};
 use twin::translation::{translate, Form};
 use twin::word::spell;
-use twin::{believed, tool, Answer, End, Refusal};
+use twin::{believed, listing, tool, Answer, End, Refusal};
 
 fn at_root(name: &str) -> std::path::PathBuf {
     Path::new(env!("CARGO_MANIFEST_DIR")).join("..").join(name)
@@ -19,11 +19,18 @@ fn page(name: &str) -> String {
 
 const REFUSED_19: Answer = Answer::Refused(Refusal { number: 19, place: 0 });
 
+/// Whether an example is one of a rule.
+fn is_of(example: &Example, rule: u32) -> bool {
+    matches!(example.answer, Answer::Refused(Refusal { number, .. }) if number == rule)
+}
+
 fn examples() -> Vec<Example> {
     let mut examples = page::examples(&page("docs/REFUSALS.md"));
-    for rule in 1..=21 {
-        let of_rule = |e: &Example| matches!(e.answer, Answer::Refused(Refusal { number, .. }) if number == rule);
-        assert!(examples.iter().any(of_rule), "the page has an example of {rule}");
+    for rule in 1..=22 {
+        assert!(examples.iter().any(|e| is_of(e, rule)), "the page has an example of {rule}");
+    }
+    for rule in [1, 2, 3, 4, 22, 19] {
+        assert!(examples.iter().any(|e| e.kind == "listing" && is_of(e, rule)), "the page has a listing's example of {rule}");
     }
     for (kind, answer) in [("value", Answer::Untidy), ("value", Answer::Done { high: 0, low: 0 }), ("tidy", REFUSED_19)] {
         assert!(examples.iter().any(|e| e.kind == kind && e.answer == answer), "the page has an example of {kind}: {answer:?}");
@@ -139,6 +146,31 @@ fn unequal_registers() {
     let mut machine = Machine::fresh(&[5, 5, 2], &[vec![], b"111".to_vec()]);
     assert_eq!(machine.run(&word, 1_000), (End::Full, 13));
     assert_eq!((word.len(), machine.lengths), (13, vec![3, 0, 2]));
+}
+
+/// The listing that COURSE.md works by hand: a row of a table for each instruction of its word, and one of another for each line done.
+#[test]
+fn decoded_listing() {
+    let section = "## Scan-and-delete listings";
+    let course = page("docs/COURSE.md");
+    let (_, shown) = course.split_once(section).expect("the section");
+    let block = shown.lines().skip_while(|l| !l.starts_with("    ")).map_while(|l| l.strip_prefix("    "));
+    let text: String = block.map(|line| line.to_string() + "\n").collect();
+    let listing = listing::read(text.as_bytes()).expect("an accepted listing");
+    let word = listing::word(&listing);
+    assert_eq!(decoded(section, "| 1 |").as_bytes(), spell(&word));
+    let lines = column(section, "| `P1 3`", 1);
+    let steps: Vec<u32> = column(section, "| `P1 3`", 4).iter().map(|n| n.parse().expect("steps")).collect();
+    let contents = [b"#".to_vec(), b"1#".to_vec(), b"".to_vec()];
+    let mut state = listing::State::fresh(&contents);
+    for (at, line) in lines.iter().enumerate() {
+        assert_eq!(*line, listing[state.line - 1].spelling(), "row {at}");
+        let ran = listing::run(&listing, &mut state, 1);
+        assert_eq!(ran.word_steps() - 1, steps[at], "row {at}");
+    }
+    let mut machine = Machine::alike(3, 9, &contents);
+    assert_eq!(machine.run(&word, 99), (End::Halted, 1 + steps.iter().sum::<u32>()));
+    assert_eq!((state.line, machine.register(1)), (listing.len() + 1, &b"#1#"[..]));
 }
 
 /// The students' page has every spelling that the program's reader takes.

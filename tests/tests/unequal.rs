@@ -1,36 +1,17 @@
 //! Registers of unequal length (document 02, request 5): its claims on programs and capacities by chance, on the twin; and rules 9, 10, 18
 //! and 21, runs that get full and budgets cut in two, on the twin and, where it is linked, on the library.
 
-use twin::cases::{Case, Outcome, Program, ANY};
+use twin::cases::{outcome, Case, Outcome, Program, ANY};
 use twin::edges::CAPACITIES;
 use twin::machine::Machine;
 use twin::page::REPORT_BYTES;
 use twin::program::{list, read, variables, write, Command, Kind, Setting};
-use twin::random::Random;
+use twin::random::{rounds, Random};
 use twin::source::{self, run, Ran, State};
 use twin::tool::check_helpers;
 use twin::translation::{tidy_charges, translate, Form};
 use twin::word::{spell, Instruction};
 use twin::{tool, Answer, End, Refusal};
-
-/// So many cases by chance, or as many as ROUNDS says.
-fn rounds(usual: usize) -> usize {
-    std::env::var("ROUNDS").ok().and_then(|n| n.parse().ok()).unwrap_or(usual)
-}
-
-#[cfg(not(feature = "library"))]
-fn outcome(case: &Case) -> Outcome {
-    case.twin()
-}
-
-/// What comes of a case on the library, with which the twin agrees; none here is the run tool's.
-#[cfg(feature = "library")]
-fn outcome(case: &Case) -> Outcome {
-    thread_local!(static TOOL: twin::library::RunTool = twin::library::RunTool::new("unequal"));
-    let outcome = TOOL.with(|tool| case.library(tool));
-    assert_eq!(outcome, case.twin(), "{case:?}");
-    outcome
-}
 
 fn told(outcome: &Outcome) -> (u32, usize) {
     match outcome.answer {

@@ -14,17 +14,18 @@ use twin::random::Random;
 use twin::spellings::every_choice;
 use twin::translation::{translate, Form};
 use twin::word::{self, spell, Instruction};
-use twin::{edges, source, tool, Answer, End};
+use twin::{edges, listing, source, tool, Answer, End};
 
 /// A run by chance that hasn't ended after so many steps has a budget of at most that.
 const LONGEST: u32 = 20_000;
 
 /// The answers of each call, every one of which must come `LEAST` times.
-const ANSWERS: [(&str, &str); 13] = [
+const ANSWERS: [(&str, &str); 14] = [
     ("read a text", "done 1 2 3 4 5 20 6 7 8 19"),
     ("write a list", "done 3 4 5 20 6 7 8 19"),
     ("translate a text", "done 1 2 3 4 5 20 6 7 8 19"),
     ("translate a list", "done 3 4 5 20 6 7 8 19"),
+    ("translate a listing", "done 1 2 3 4 22 19"),
     ("run a text", "halted spent full 1 2 3 4 5 20 6 7 8 9"),
     ("run a list", "halted spent full 3 4 5 20 6 7 8 9"),
     ("read a word", "done 11 12 13 14 19"),
@@ -277,6 +278,30 @@ fn report_edges(tally: &mut Tally) {
     }
 }
 
+/// The symbols of a listing's word, or 9 if it has none.
+fn listed(text: &[u8]) -> usize {
+    listing::read(text).map_or(9, |l| spell(&listing::word(&l)).len())
+}
+
+/// Listings at the limits with no output, and with ones of the length that the word has, of one less and of one more; samples with every
+/// output up to past that, and runs of their words.
+fn listing_edges(tally: &mut Tally) {
+    for text in edges::listings::texts() {
+        let length = listed(&text);
+        for lent in [0, length - 1, length, length + 1] {
+            tally.hold(Case::Listing { text: text.clone(), lent });
+        }
+    }
+    tally.hold(Case::Listing { text: listing::write(&edges::listings::largest()), lent: 600_000 });
+    for (text, registers) in edges::listings::SAMPLES {
+        for lent in 0..listed(text.as_bytes()) + 2 {
+            tally.hold(Case::Listing { text: text.into(), lent });
+        }
+        let word = listing::word(&listing::read(text.as_bytes()).expect("a sample is accepted"));
+        word_edges(tally, &word, &Machine::alike(3, 5, &edges::listings::contents(registers)));
+    }
+}
+
 /// All cases at the limits.
 fn at_limits(tally: &mut Tally) {
     for text in edges::texts() {
@@ -300,6 +325,7 @@ fn at_limits(tally: &mut Tally) {
         }
     }
     report_edges(tally);
+    listing_edges(tally);
     for word in edges::words() {
         let count = word::read(&word).map_or(9, |t| t.len());
         for (kinds, operands) in [(count - 1, count), (count, count - 1), (count, count), (8_192, 8_200)] {
@@ -454,6 +480,10 @@ fn by_chance(tally: &mut Tally, random: &mut Random) {
     tally.hold(Case::ReadWord { word: word.clone(), kinds: lent(random, count), operands: lent(random, count) });
     tally.hold(word_case(random, word, machine));
     let (word, machine) = random.translated();
+    tally.hold(word_case(random, word, machine));
+    let text = random.listing_text();
+    tally.hold(Case::Listing { lent: lent(random, listed(&text)), text });
+    let (word, machine) = random.listed();
     tally.hold(word_case(random, word, machine));
     tally.hold(written_case(random));
     tally.hold(table_case(random));

@@ -11,6 +11,8 @@ use std::time::Duration;
 use std::{env, fs};
 use timing::{measure, Row, Work};
 use twin::cases::{PLAIN, TIDY};
+use twin::edges::listings::{self, SAMPLES};
+use twin::listing;
 use twin::machine::Machine;
 use works::*;
 
@@ -46,6 +48,8 @@ fn speed() -> Vec<Work> {
         translating("translate the largest, 311,044 symbols", 512, PLAIN, as_text(&largest)),
         translating("translate the largest, tidy, 312,067 symbols", 512, TIDY, as_text(&largest)),
         translating("translate the largest, from its list", 512, PLAIN, as_list(&largest)),
+        translating_listing("translate a listing of 7 lines", 7, SAMPLES[0].0.as_bytes()),
+        translating_listing("translate the largest listing, 414,212 symbols", 256, &listing::write(&listings::largest())),
         running_source("source run, 1,862 steps", as_text(MULTIPLY), &[0, 30, 30]),
         running_source("source run, 100,000 steps", as_text(BUSY), &[0, 100]),
         running_source("source run, 100,000 steps, from a list", as_list(BUSY), &[0, 100]),

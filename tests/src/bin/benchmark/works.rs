@@ -8,6 +8,7 @@ use std::rc::Rc;
 use std::{env, fs};
 use twin::cases::{form_of, Program, ANY};
 use twin::library::{self, Code};
+use twin::listing;
 use twin::machine::Machine;
 use twin::program::{self, read, read_list, Command, Kind, Setting};
 use twin::source::{check, run, State};
@@ -107,6 +108,21 @@ pub fn translating(name: &str, size: usize, form: u32, program: Program) -> Work
         },
         move || {
             black_box(black_box(&again).read(Setting::Any).map(|c| spell(&translate(form_of(form), &c)))).ok();
+        },
+    )
+}
+
+pub fn translating_listing(name: &str, size: usize, text: &[u8]) -> Work {
+    let (text, again) = (text.to_vec(), text.to_vec());
+    let mut word = vec![0; 600_000];
+    Work::new(
+        name,
+        size,
+        move || {
+            black_box(library::translate_listing(black_box(&text), &mut word));
+        },
+        move || {
+            black_box(listing::read(black_box(&again)).map(|l| spell(&listing::word(&l)))).ok();
         },
     )
 }
