@@ -33,7 +33,7 @@ pub record LinesSpelled : Type 0 where
   pub read : (c : Line) → OnASet c → line (spelling c) ≡ some c
   pub only : (t : Bytes) (c : Line) → line t ≡ some c → OnASet c × (spelling c ≡ t)
 
--- "A listing is accepted" when rules 3, 4 and 22 don't turn its lines down, each register being one of a set's
+-- A listing is accepted when rules 3, 4 and 22 don't turn its lines down, each register being one of a set's
 pub record Accepted (l : List Line) : Type 0 where
   pub registers : EachOf OnASet l
   pub passes : listing-fault (map some l) ≡ none

@@ -1,4 +1,4 @@
--- What a listing's translation hands back: the answers of document 02, request 6, as values of this crate's types.
+-- What a listing's translation hands back: the answers of document 02, request 6, as values of the types in crate `instruction`.
 use mathlib.Core.Path.{_≡_}
 use mathlib.Core.List.{List}
 use Prim.Native.Nat.{ℕ}

@@ -1,4 +1,5 @@
--- What the entries of this crate hand back: the answers of document 01, with their numbers and places, as values of the crate's types.
+-- What the entries of this crate hand back: the answers of document 01, with their numbers and places, as values of the types in crate
+-- `instruction`.
 use mathlib.Core.Path.{_≡_}
 use mathlib.Core.List.{List}
 use Prim.Native.Nat.{ℕ}
