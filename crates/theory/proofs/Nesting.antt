@@ -1,5 +1,5 @@
 -- Rules 3 to 8 as facts about a program: what is read is accepted; an accepted program keeps the limits, line by line, and is the lines of
--- its block; and a block is that of its lines.
+-- its block.
 use mathlib.Core.Path.{_≡_, refl, sym, ap, ap₂, _∙_}
 use mathlib.Core.Bool.{Bool, true, _&&_, false≢true}
 use mathlib.Core.Option.{Option, none, some, Option·none-ne-some}
@@ -203,31 +203,6 @@ joins (closes k i ∷ p) n (o ∷ os) e =
 pub well-nested : WellNested
 unfolding block-of Joins joined
 well-nested p a = joins p 1 [] (sound p a) .1
-
--- A block is that of its lines, so a program is the lines of no other block
-
--- One block after another
-then : Block → Block → Block
-then empty b = b
-then (single c x) b = single c (then x b)
-then (pair k i body x) b = pair k i body (then x b)
-
-then-end : (b : Block) → then b empty ≡ b
-unfolding then
-then-end empty = refl
-then-end (single c b) = ap (single c) (then-end b)
-then-end (pair k i body b) = ap (pair k i body) (then-end b)
-
-blocks-lines : (b : Block) (p : List Command)
-    → blocks (lines b ++ p) ≡ record { first = then b (blocks p .first); later = blocks p .later }
-unfolding then blocks
-blocks-lines empty p = refl
-blocks-lines (single c b) p = ap {B = Blocks} (λ r. record { first = single c (r .first); later = r .later }) (blocks-lines b p)
-blocks-lines (pair k i body b) p =
-    ap (λ r. opened-by k i (r .first) (r .later))
-    (ap blocks (append-assoc (lines body) (closes k i ∷ lines b) p)
-    ∙ (blocks-lines body (closes k i ∷ (lines b ++ p))
-    ∙ ap₂ {C = Blocks} (λ x r. record { first = x; later = r .first ∷ r .later }) (then-end body) (blocks-lines b p)))
 
 -- At most 16 pairs within pairs
 

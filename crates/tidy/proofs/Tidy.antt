@@ -42,6 +42,16 @@ others-empty K v h (suc i) l = go (ltb i K) refl
     go true e = let below : i < K = ltb-true i K e in ap ones (h i (omega arith) (omega arith))
     go false e = refl
 
+-- The plain word of a block with its clears after it
+pub tidy-as-plain : (b : Block) → word (followed-by b (clear-lines (pred (variables (lines b))))) ≡ tidy-word b
+unfolding word tidy-word
+tidy-as-plain b =
+    let K : ℕ = variables (lines b) in
+    let x : Block = clear-lines (pred K) in
+    let same : variables (lines (followed-by b x)) ≡ K = ap variables (lines-followed b x) ∙ variables-same (lines b) in
+    ap {B = List Instruction} (λ l. forward 1 ∷ l)
+    (ap (λ L. code L 0 (followed-by b x)) same ∙ (code-followed K 0 b x ∙ ap (λ l. code K 0 b ++ l) (clears-code K 0 K)))
+
 module _ (b : Block) (v : ℕ → ℕ) where
   abbrev p : List Command
   p = lines b
@@ -65,16 +75,9 @@ module _ (b : Block) (v : ℕ → ℕ) where
   abbrev HasHalted : W.State → Type 0
   HasHalted t = Ends (W.machine unlimited (tidy-word b)) Halted t
 
-  word-is : word (followed-by b x) ≡ w⁺
-  unfolding word tidy-word
-  word-is =
-      let same : variables (lines (followed-by b x)) ≡ K = ap variables (lines-followed b x) ∙ variables-same p in
-      ap {B = List Instruction} (λ l. forward 1 ∷ l)
-      (ap (λ L. code L 0 (followed-by b x)) same ∙ (code-followed K 0 b x ∙ ap (λ l. code K 0 b ++ l) (clears-code K 0 K)))
-
   demand : Demand3 p⁺ w⁺ v
   demand =
-      subst (λ w. Demand3 p⁺ w v) word-is
+      subst (λ w. Demand3 p⁺ w v) (tidy-as-plain b)
       (subst (λ l. Demand3 l (word (followed-by b x)) v) (lines-followed b x) (demand-of-blocks (followed-by b x) v))
 
   -- Both programs have the same number of variables, so the same start
