@@ -11,13 +11,18 @@ use twin::translation::translate;
 use twin::word::{self, spell};
 use twin::Answer;
 
+/// What was written, where the output is as long as that.
+fn symbols(outcome: Outcome) -> Vec<u8> {
+    outcome.memory.iter().map(|&b| b as u8).collect()
+}
+
 /// The symbols of an accepted program's word.
 fn label(form: u32, program: Program) -> Vec<u8> {
     let table = translate(form_of(form), &program.read(Setting::Any).expect("an accepted program"));
     let (high, low) = (table.len() as u32, spell(&table).len() as u32);
-    let Outcome { answer, memory } = outcome(&Case::Translate { setting: ANY, form, program, lent: low as usize });
-    assert_eq!(answer, Answer::Done { high, low });
-    memory.iter().map(|&b| b as u8).collect()
+    let outcome = outcome(&Case::Translate { setting: ANY, form, program, lent: low as usize });
+    assert_eq!(outcome.answer, Answer::Done { high, low });
+    symbols(outcome)
 }
 
 fn label_of(form: u32, commands: &[Command]) -> Vec<u8> {
@@ -169,8 +174,12 @@ fn one_program_one_label() {
 }
 
 /// Labels of different forms prove nothing: one tidy word is the plain word of a program with a clear more. Within the tidy form they do.
+/// A listing may have the word of a program.
 #[test]
 fn across_forms() {
-    assert_eq!(label_of_lines(TIDY, "X1 <- X1 + 1"), label_of_lines(PLAIN, "X1 <- X1 + 1; X1 <- 0"));
+    assert_eq!(label_of_lines(TIDY, "X1 <- X1 + 1"), b"1###11#11#####11###11####");
+    assert_eq!(label_of_lines(PLAIN, "X1 <- X1 + 1; X1 <- 0"), b"1###11#11#####11###11####");
     assert_eq!(labels(TIDY, &small_programs()), DIFFERENT);
+    assert_eq!(label_of_lines(PLAIN, "X0 <- X0 + 1"), b"1###1#");
+    assert_eq!(symbols(outcome(&Case::Listing { text: b"P1 1\n".to_vec(), lent: 6 })), b"1###1#");
 }

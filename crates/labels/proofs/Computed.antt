@@ -17,7 +17,7 @@ unfolding words clears shared T.following T.same T.digits T.value-after T.numera
     D.program-fault-under D.text-fault-under D.read-text-under F.clears F.tidy-word F.tidy-word-of F.tidy-text R.next R.commands-after
     R.program-of
 examples-hold =
-    let a : EachOf Holds words = ((refl, refl), ((refl, refl), ((refl, refl), ((refl, refl), ((refl, refl), tt))))) in
-    let b : EachOf Holds clears = ((refl, refl), ((refl, refl), ((refl, refl), ((refl, refl), tt)))) in
+    let a : EachOf Holds words = ((refl, refl), ((refl, refl), ((refl, refl), ((refl, refl), ((refl, refl), ((refl, refl), tt)))))) in
+    let b : EachOf Holds clears = ((refl, refl), ((refl, refl), ((refl, refl), ((refl, refl), ((refl, refl), ((refl, refl), tt)))))) in
     let c : EachOf Holds shared = ((refl, refl), ((refl, refl), (refl, (refl, tt)))) in
     (a, (b, c))

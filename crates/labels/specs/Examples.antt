@@ -34,21 +34,25 @@ words =
     ∷ labels "loop X1\nX0 <- X0 + 1\nendloop X1\n"
     "1###11#####1111###1111#111#1111####111#####111###11#111####1111#####111###1#111####"
     ∷ labels "X2 <- X2\n" "1###111#####11###111#"
-    ∷ labels "X0 <- X1\n" "1###1#####11###11####11#####1111###1#111#1111####111#####111###11#111####"
+    ∷ labels "X1 <- X0\n" "1###11#####11###11####1#####1111###11#111#1111####111#####111###1#111####"
+    ∷ labels "X0 <- X2\n" "1###1#####11###11####111#####1111###1#1111#1111####1111#####111###111#111####"
     ∷ labels "while X1 != 0\nloop X0\nendloop X0\nendwhile X1 != 0\n"
     "1###11#####111111111111111###11#1#####1111###1111#111#1111####111#####111###1#111####1111#####11###11####111111111111111####"
     ∷ []
 
--- A clear of X0 and what follows it, which begins much as the rest of a copy into X0
+-- A clear of b, and behind it what begins much as the rest of a copy into b does
 unfoldable pub clears : List Example
 clears =
-    -- C 2, F4, but no +1: of a LOOP, and of a WHILE whose body is one instruction
+    -- C a, F4, but no +b: of a LOOP, and of a WHILE whose body is one instruction, with a above b and below it
     labels "X0 <- 0\nloop X1\nendloop X1\n"
     "1###1#####11###11####11#####1111###1111#111#1111####111#####111###11#111####1111#####11###11####"
     ∷ labels "X0 <- 0\nwhile X1 != 0\nX0 <- X0 + 1\nendwhile X1 != 0\n" "1###1#####11###11####11#####1111###11#1#1111####"
-    -- C 1, F4, +1: a copy is of two variables
+    ∷ labels "X1 <- 0\nwhile X0 != 0\nX0 <- X0 + 1\nendwhile X0 != 0\n" "1###11#####11###11####1#####1111###1#1#1111####"
+    -- C b, F4, +b: a copy is of two variables
     ∷ labels "X0 <- 0\nwhile X0 != 0\nX1 <- X1 + 1\nendwhile X0 != 0\n" "1###1#####11###11####1#####1111###1#11#1111####"
-    -- the end of a pair, +4, +1
+    -- C a, F2, B2 where b is 2
+    ∷ labels "X1 <- 0\nX0 <- 0\n" "1###11#####11###11####1#####11###11####"
+    -- the end of a pair, +4, +b
     ∷ labels "while X1 != 0\nX0 <- 0\nendwhile X1 != 0\nX3 <- X3 + 1\nX0 <- X0 + 1\n"
     "1###11#####111111###11#1#####11###11####111111####1111#1#"
     ∷ []
