@@ -10,7 +10,7 @@ use lib.ListN.{length, replicate, length-append, length-map, length-replicate}
 use lib.Dec.{eqb, leb, ltb, eqb·suc-zero}
 use borrow.Author.Tests.{eqb-true, eqb-false, leb-true, le-leb, ltb-false, le-ltb, ne-eqb, not-false}
 use Rattle.theory.specs.Limits
-use Rattle.theory.specs.Basics.{given, or-else, all, EachOf}
+use Rattle.theory.specs.Basics.{given, or-else, EachOf}
 use Rattle.theory.specs.Text.{Bytes}
 use Rattle.theory.specs.Word.{Symbol, one, hash, byte-of, is-symbol, symbol-of, Instruction, append, forward, backward, cases}
 use Rattle.theory.specs.Word.{operand, Entry, entry-of, table-of, instruction-of, spell-entries, bytes-of}
@@ -41,9 +41,6 @@ byte-of-symbol b h = go (eqb b 49) refl
 
 pub one-is-symbol : (b : ℕ) → b ≡ 49 → is-symbol b ≡ true
 one-is-symbol b h = rw h
-
-pub hash-is-symbol : (b : ℕ) → b ≡ 35 → is-symbol b ≡ true
-hash-is-symbol b h = rw h
 
 -- Rule 12 turns nothing down exactly where all bytes are symbols
 pub bytes-of-symbols : (n : ℕ) (w : Bytes) → first-failing is-symbol n w ≡ none → bytes-of (map symbol-of w) ≡ w
@@ -99,13 +96,6 @@ pub entries-first : (n k : ℕ) (s : List Symbol) → 1 ≤ k → Apart s
     → entries (replicate n one ++ (replicate k hash ++ s)) ≡ entry n k ∷ entries s
 entries-first n zero s h a = absurd (omega arith)
 entries-first n (suc k) s h a = ones n (suc k) (replicate (suc k) hash ++ s) (entries s) (hashes k s a)
-
--- `1`s at the end are an entry that has no `#`
-pub entries-last : (n : ℕ) → 1 ≤ n → entries (replicate n one) ≡ entry n 0 ∷ []
-unfolding entries
-entries-last zero h = absurd (omega arith)
-entries-last (suc zero) h = refl
-entries-last (suc (suc n)) h = ap {B = List Entry} one-before (entries-last (suc n) (omega arith))
 
 -- Entries spelled again
 
@@ -233,25 +223,6 @@ pub table-of-formed : (n : ℕ) (t : List Entry) → EachOf Formed t → first-a
 unfolding first-along
 table-of-formed n [] f = refl
 table-of-formed n (e ∷ t) f = neither (bad-entry n e) _ (formed-good n e (f .0)) (table-of-formed (suc n) t (f .1))
-
--- Reading from the front: what has been passed only moves the place
-
-pub first-failing-append : (f : ℕ → Bool) (n : ℕ) (a b : List ℕ) → all f a ≡ true
-    → first-failing f n (a ++ b) ≡ first-failing f (n + length a) b
-unfolding first-failing
-first-failing-append f n [] b h = ap (λ m. first-failing f m b) (omega arith)
-first-failing-append f n (x ∷ a) b h =
-    let place : suc n + length a ≡ n + suc (length a) = omega arith in
-    rw (and-first (f x) _ h) (first-failing-append f (suc n) a b (and-second (f x) _ h) ∙ ap (λ m. first-failing f m b) place)
-
-pub first-along-append : (f : ℕ → Entry → Option ℕ) (n : ℕ) (t u : List Entry) → first-along next-byte f n t ≡ none
-    → first-along next-byte f n (t ++ u) ≡ first-along next-byte f (n + total t) u
-unfolding first-along
-first-along-append f n [] u h = ap (λ m. first-along next-byte f m u) (omega arith)
-first-along-append f n (e ∷ t) u h =
-    let m : ℕ = n + entry-size e in
-    let place : m + total t ≡ n + (entry-size e + total t) = omega arith in
-    rw (none-first (f n e) _ h) (first-along-append f m t u (none-second (f n e) _ h) ∙ ap (λ k. first-along next-byte f k u) place)
 
 pub total-append : (t u : List Entry) → total (t ++ u) ≡ total t + total u
 total-append [] u = omega arith
