@@ -15,7 +15,7 @@ use Rattle.theory.specs.Machines.{is-limited}
 use Rattle.theory.specs.TurnedDown.{unless}
 use Rattle.theory.specs.declared.Refusal.{Refusal}
 use Rattle.listing.specs.Refused.{most-lines, line-fault, rule-3, lines-fault, listing-fault}
-use Rattle.listing_lines.specs.declared.Numbers.{Numbers}
+use Rattle.listing_numbers.specs.declared.Numbers.{Numbers}
 use Rattle.listing_check.specs.declared.Judged.{Judged}
 use Rattle.listing_check.specs.declared.Judged.the-variants.{Passes, Fault}
 use Rattle.listing_check.specs.Lined.{line-of, numbers-at, lined, judged, Whole}

@@ -11,7 +11,7 @@ use Rattle.theory.specs.TurnedDown.{Answer, answer}
 use Rattle.theory.specs.declared.Refusal.{Refusal}
 use Rattle.listing.specs.Listing.{Line, print, scan}
 use Rattle.listing.specs.Refused.{listing-fault}
-use Rattle.listing_lines.specs.declared.Numbers.{Numbers}
+use Rattle.listing_numbers.specs.declared.Numbers.{Numbers}
 use Rattle.listing_check.specs.declared.Judged.{Judged}
 use Rattle.listing_check.specs.declared.Judged.the-variants as J
 

@@ -4,10 +4,10 @@ ghost use Prim.Native.Nat.{suc};
 ghost use Rattle.theory.specs.Machines.{is-limited};
 ghost use Rattle.listing.specs.Refused.{line-fault, lines-fault, listing-fault};
 ghost use Rattle.listing_check.specs.Lined.{numbers-at, line-of, lined, judged, Whole};
-use listing_lines::Numbers;
-use listing_lines::PRINT_HASH;
-use listing_lines::PRINT_ONE;
-use listing_lines::SCAN;
+use listing_numbers::Numbers;
+use listing_numbers::PRINT_HASH;
+use listing_numbers::PRINT_ONE;
+use listing_numbers::SCAN;
 use theory::Refusal;
 
 // "at most 256 lines"

@@ -15,9 +15,9 @@ use Rattle.output.specs.Puts.{most, place, Put, starting}
 use Rattle.output.proofs.Puts.{put-nothing, put-then, sets-starting}
 use Rattle.listing.specs.Listing.{line}
 use Rattle.listing.specs.Refused.{text-lines}
-use Rattle.listing_lines.specs.declared.Numbers.{Numbers}
-use Rattle.listing_lines.specs.Numbers.{numbers, list-of}
-use Rattle.listing_lines.specs.Lines.{in-order}
+use Rattle.listing_numbers.specs.declared.Numbers.{Numbers}
+use Rattle.listing_numbers.specs.Numbers.{numbers, list-of}
+use Rattle.listing_numbers.specs.Lines.{in-order}
 
 -- Before the line at `at`: the numbers put, and those of the lines that are left, are those of the whole text
 pub record LinesFrom (t lent list : List ℕ) (at lines to : ℕ) : Type 0 where

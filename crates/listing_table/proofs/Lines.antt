@@ -16,7 +16,7 @@ use Rattle.listing.specs.Listing.{Line, print, scan, size}
 use Rattle.listing.specs.Claims.{Targets}
 use Rattle.listing.proofs.Texts.{all-present}
 use Rattle.listing.proofs.Targets.{lines-targets}
-use Rattle.listing_lines.specs.declared.Numbers.{Numbers}
+use Rattle.listing_numbers.specs.declared.Numbers.{Numbers}
 use Rattle.listing_check.specs.Lined.{line-of, numbers-at, lined, lines-of}
 use Rattle.listing_check.proofs.Lines.{lined-length, lined-at}
 use Rattle.listing_table.specs.Tables.{kind-size, Passed}

@@ -12,7 +12,7 @@ use lib.Seq.{getD-set-same, getD-set-other}
 use Rattle.listing.specs.Listing.{Line, size, place, word}
 use Rattle.listing.proofs.Places.{place-is, place-end, place-next}
 use Rattle.listing.proofs.Fits.{sizes, sizes-most}
-use Rattle.listing_lines.specs.declared.Numbers.{Numbers}
+use Rattle.listing_numbers.specs.declared.Numbers.{Numbers}
 use Rattle.listing_check.specs.Lined.{numbers-at, lines-of}
 use Rattle.listing_table.specs.Tables.{Passed, kind-size, most-entries, Placed}
 use Rattle.listing_table.proofs.Lines.{LineAt, line-at, lines-length, sized}

@@ -17,7 +17,7 @@ use Rattle.output.proofs.Puts.{sets-front}
 use Rattle.listing.specs.Listing.{Line, size, place, transfer, line-code, code, word}
 use Rattle.listing.specs.Claims.{Targets}
 use Rattle.listing.proofs.Places.{line-length, place-start, place-next}
-use Rattle.listing_lines.specs.declared.Numbers.{Numbers}
+use Rattle.listing_numbers.specs.declared.Numbers.{Numbers}
 use Rattle.listing_check.specs.Lined.{line-of, numbers-at, lines-of}
 use Rattle.listing_table.specs.Tables.{Passed, most-entries, Placed, line-entries, Tabled}
 use Rattle.listing_table.proofs.Placing.{place-bounds}

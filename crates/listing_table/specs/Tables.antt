@@ -12,7 +12,7 @@ use Rattle.theory.specs.TurnedDown.{Answer, done, refused}
 use Rattle.word.specs.declared.answers.Read.{Read}
 use Rattle.word.specs.declared.answers.Read.the-variants as R
 use Rattle.word.specs.Answers.{kinds-of, operands-of}
-use Rattle.listing_lines.specs.declared.Numbers.{Numbers}
+use Rattle.listing_numbers.specs.declared.Numbers.{Numbers}
 use Rattle.listing.specs.Listing.{Line, place, transfer, word}
 use Rattle.listing.specs.Refused.{most-lines, lines-fault}
 use Rattle.listing_check.specs.Lined.{lined, read, Whole}

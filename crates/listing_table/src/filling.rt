@@ -11,8 +11,8 @@ ghost use Rattle.listing_table.specs.Tables.{Passed, most-entries, Place
 use crate::places::place_at;
 use crate::places::places_of;
 use listing_check::numbers_at;
-use listing_lines::Numbers;
-use listing_lines::SCAN;
+use listing_numbers::Numbers;
+use listing_numbers::SCAN;
 use word::Instruction;
 
 // From a place to another one.

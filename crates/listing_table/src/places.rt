@@ -4,7 +4,7 @@ ghost use lib.ListN.{getD};
 ghost use Rattle.listing_check.specs.Lined.{lines-of};
 ghost use Rattle.listing_table.specs.Tables.{Passed, kind-size, Placed};
 use listing_check::numbers_at;
-use listing_lines::SCAN;
+use listing_numbers::SCAN;
 
 // The place of line 1: F1 stands before it.
 const FIRST: u16 = 2;

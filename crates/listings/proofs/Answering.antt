@@ -31,7 +31,7 @@ use Rattle.listing.specs.Refused.{most-lines, rule-3, listing-fault, text-lines
 use Rattle.listing.specs.Claims.{ListingFits}
 use Rattle.listing.proofs.Fits.{listing-words-fit}
 use Rattle.listing.proofs.Texts.{listings-read}
-use Rattle.listing_lines.specs.Numbers.{list-of}
+use Rattle.listing_numbers.specs.Numbers.{list-of}
 use Rattle.instruction.specs.declared.Translated.{Translated}
 use Rattle.instruction.specs.declared.Translated.the-variants as T
 use Rattle.listings.specs.Answers.{Answers, sized, Sized, written}

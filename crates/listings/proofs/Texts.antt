@@ -18,7 +18,7 @@ use Rattle.listing.specs.Listing.{Line, print, scan}
 use Rattle.listing.specs.Refused.{most-lines, rule-3, line-fault, lines-fault, listing-fault}
 use Rattle.listing.specs.Claims.{Targets}
 use Rattle.listing.proofs.Targets.{line-targets}
-use Rattle.listing_lines.specs.Numbers.{most-target, numbers, list-of}
+use Rattle.listing_numbers.specs.Numbers.{most-target, numbers, list-of}
 use Rattle.listing_check.specs.Lined.{line-of, lined, read}
 
 -- A line with its targets kept low

@@ -1,12 +1,12 @@
--- `listing_lines::scan_line` meets its contract: a register, and targets behind it.
+-- `listing_numbers::scan_line` meets its contract: a register, and targets behind it.
 use mathlib.Core.Path.{sym, ap, _∙_}
 use native.Mathlib.Omega.{arith}
 use Rattle.theory.specs.Text.{bytes}
-use Rattle.listing_lines.specs.Numbers.{numbers}
-use Rattle.listing_lines.proofs.Reading.{number-there, number-missing, scan-no-number, scan-no-register, scan-targets}
+use Rattle.listing_numbers.specs.Numbers.{numbers}
+use Rattle.listing_numbers.proofs.Reading.{number-there, number-missing, scan-no-number, scan-no-register, scan-targets}
 use borrow.Author.Needs.{needs}
-use Rattle.listing_lines.proofs.scan_line.Statement.{statement}
-use Rattle.listing_lines.proofs.scan_line.Tie as tie
+use Rattle.listing_numbers.proofs.scan_line.Statement.{statement}
+use Rattle.listing_numbers.proofs.scan_line.Tie as tie
 
 slice-aggregate-number-after : tie.Need-slice-aggregate-number-after
 slice-aggregate-number-after c = search needs

@@ -1,11 +1,11 @@
--- `listing_lines::print_line` meets its contract: the name, a register, and nothing behind it, each found or not.
+-- `listing_numbers::print_line` meets its contract: the name, a register, and nothing behind it, each found or not.
 use mathlib.Core.Path.{sym, _∙_}
 use native.Mathlib.Omega.{arith}
-use Rattle.listing_lines.proofs.Reading.{number-there, number-missing, print-no-number, print-no-register}
-use Rattle.listing_lines.proofs.Reading.{print-more, print-whole}
+use Rattle.listing_numbers.proofs.Reading.{number-there, number-missing, print-no-number, print-no-register}
+use Rattle.listing_numbers.proofs.Reading.{print-more, print-whole}
 use borrow.Author.Needs.{needs}
-use Rattle.listing_lines.proofs.print_line.Statement.{statement}
-use Rattle.listing_lines.proofs.print_line.Tie as tie
+use Rattle.listing_numbers.proofs.print_line.Statement.{statement}
+use Rattle.listing_numbers.proofs.print_line.Tie as tie
 
 number-after-requires : tie.Need-number-after-requires
 number-after-requires c κs = search needs

@@ -1,12 +1,12 @@
--- `listing_lines::numbers_of` meets its contract: the spellings one after the other.
+-- `listing_numbers::numbers_of` meets its contract: the spellings one after the other.
 use mathlib.Core.Path.{refl}
 use Rattle.theory.specs.Text.{bytes}
 use Rattle.theory.specs.Word.{one, hash}
-use Rattle.listing_lines.specs.Lines.{IsPrint}
-use Rattle.listing_lines.proofs.Reading.{numbers-one, numbers-hash, numbers-scan}
+use Rattle.listing_numbers.specs.Lines.{IsPrint}
+use Rattle.listing_numbers.proofs.Reading.{numbers-one, numbers-hash, numbers-scan}
 use borrow.Author.Needs.{needs}
-use Rattle.listing_lines.proofs.numbers_of.Statement.{statement}
-use Rattle.listing_lines.proofs.numbers_of.Tie as tie
+use Rattle.listing_numbers.proofs.numbers_of.Statement.{statement}
+use Rattle.listing_numbers.proofs.numbers_of.Tie as tie
 
 -- The names and kinds of the two P lines
 is-one : IsPrint 1 (bytes "P1 ") one

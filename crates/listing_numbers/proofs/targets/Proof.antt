@@ -1,11 +1,11 @@
--- `listing_lines::targets` meets its contract: two targets, and nothing behind them, each found or not.
+-- `listing_numbers::targets` meets its contract: two targets, and nothing behind them, each found or not.
 use native.Mathlib.Omega.{arith}
 use Rattle.theory.specs.Text.{bytes}
-use Rattle.listing_lines.proofs.Reading.{number-there, number-missing, no-first-target, no-second-target, second-target}
-use Rattle.listing_lines.proofs.Reading.{targets-more, targets-whole}
+use Rattle.listing_numbers.proofs.Reading.{number-there, number-missing, no-first-target, no-second-target, second-target}
+use Rattle.listing_numbers.proofs.Reading.{targets-more, targets-whole}
 use borrow.Author.Needs.{needs}
-use Rattle.listing_lines.proofs.targets.Statement.{statement}
-use Rattle.listing_lines.proofs.targets.Tie as tie
+use Rattle.listing_numbers.proofs.targets.Statement.{statement}
+use Rattle.listing_numbers.proofs.targets.Tie as tie
 
 slice-aggregate-number-after : tie.Need-slice-aggregate-number-after
 slice-aggregate-number-after c = search needs

@@ -1,14 +1,14 @@
--- `listing_lines::number_after` meets its contract: the word stands there or not.
+-- `listing_numbers::number_after` meets its contract: the word stands there or not.
 use mathlib.Core.Path.{sym, ap, _∙_}
 use native.Mathlib.Omega.{arith}
 use lib.ListN.{length}
 use Rattle.numerals.specs.Numbers.{found-in}
 use Rattle.output.specs.Puts.{most}
-use Rattle.listing_lines.specs.Numbers.{most-target}
-use Rattle.listing_lines.proofs.Reading.{word-fits, word-there, word-missing}
+use Rattle.listing_numbers.specs.Numbers.{most-target}
+use Rattle.listing_numbers.proofs.Reading.{word-fits, word-there, word-missing}
 use borrow.Author.Needs.{needs}
-use Rattle.listing_lines.proofs.number_after.Statement.{statement}
-use Rattle.listing_lines.proofs.number_after.Tie as tie
+use Rattle.listing_numbers.proofs.number_after.Statement.{statement}
+use Rattle.listing_numbers.proofs.number_after.Tie as tie
 
 stands-requires : tie.Need-stands-requires
 stands-requires c κs = search needs

@@ -24,9 +24,9 @@ use Rattle.text.specs.Words.{is-some}
 use Rattle.text.proofs.Words.{after-not, after-is, none-left, some-left}
 use Rattle.numerals.proofs.Found.{FoundTo, found-missing, found-there}
 use Rattle.listing.specs.Listing.{Line, print, scan, print-name, in-range, register-number, prints, scans, line}
-use Rattle.listing_lines.specs.declared.Numbers.{Numbers}
-use Rattle.listing_lines.specs.Numbers.{most-target, numbers}
-use Rattle.listing_lines.specs.Lines.{in-order, after, Prints, with-targets}
+use Rattle.listing_numbers.specs.declared.Numbers.{Numbers}
+use Rattle.listing_numbers.specs.Numbers.{most-target, numbers}
+use Rattle.listing_numbers.specs.Lines.{in-order, after, Prints, with-targets}
 
 -- What is read of no line
 abbrev pub no-numbers : Numbers

@@ -7,8 +7,8 @@ use Rattle.theory.specs.Basics.{given, and-then}
 use Rattle.theory.specs.Text.{Bytes, Found, bytes, following, same, numeral}
 use Rattle.theory.specs.Word.{Symbol}
 use Rattle.listing.specs.Listing.{Line, print, scan, print-name, prints}
-use Rattle.listing_lines.specs.Numbers.{numbers}
-use Rattle.listing_lines.specs.declared.Numbers.{Numbers}
+use Rattle.listing_numbers.specs.Numbers.{numbers}
+use Rattle.listing_numbers.specs.declared.Numbers.{Numbers}
 
 -- The numbers of a line in their order
 abbrev pub in-order : Numbers → List ℕ

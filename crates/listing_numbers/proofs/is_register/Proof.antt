@@ -1,8 +1,8 @@
--- `listing_lines::is_register` meets its contract: two tests.
+-- `listing_numbers::is_register` meets its contract: two tests.
 use native.Mathlib.Omega.{arith}
 use borrow.Author.Tests.{le-leb, lt-leb}
-use Rattle.listing_lines.proofs.is_register.Statement.{statement}
-use Rattle.listing_lines.proofs.is_register.Tie as tie
+use Rattle.listing_numbers.proofs.is_register.Statement.{statement}
+use Rattle.listing_numbers.proofs.is_register.Tie as tie
 
 returns : tie.Need-returns
 returns c = rw (lt-leb 1 (c .before .args .n) (c .if1 .taken))
