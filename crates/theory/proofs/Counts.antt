@@ -16,6 +16,13 @@ use Rattle.theory.proofs.Budgets.{run-ended, run-spent, run-counted, ru
 abbrev pub allows : ℕ → ℕ → ℕ
 allows b n = min b (last-count - n)
 
+-- A step takes one of them
+one-less : (a b n : ℕ) → allows (suc b) n ≡ suc a → allows b (suc n) ≡ a
+one-less a b n e = omega arith
+
+below-last : (a b n : ℕ) → allows b n ≡ suc a → ltb n last-count ≡ true
+below-last a b n e = lt-ltb n last-count (omega arith)
+
 module _ {S : Type 0} (M : Machine S) where
   none-allowed : (b n : ℕ) (s : S) → allows b n ≡ 0 → M .ended s ≡ none → run M b n s ≡ stop M Spent s
   none-allowed zero n s z h = run-spent M n s h
@@ -30,13 +37,13 @@ module _ {S : Type 0} (M : Machine S) where
   same-allowed (suc a) zero b′ n n′ s e e′ = absurd (omega arith)
   same-allowed (suc a) (suc b) zero n n′ s e e′ = absurd (omega arith)
   same-allowed (suc a) (suc b) (suc b′) n n′ s e e′ =
-      at (λ t. same-allowed a b b′ (suc n) (suc n′) t (omega arith) (omega arith)) (M .ended s) refl (M .next s) refl
+      at (λ t. same-allowed a b b′ (suc n) (suc n′) t (one-less a b n e) (one-less a b′ n′ e′)) (M .ended s) refl (M .next s) refl
     where
       below : ltb n last-count ≡ true
-      below = lt-ltb n last-count (omega arith)
+      below = below-last a (suc b) n e
 
       below′ : ltb n′ last-count ≡ true
-      below′ = lt-ltb n′ last-count (omega arith)
+      below′ = below-last a (suc b′) n′ e′
 
       at : ((t : S) → run M b (suc n) t ≡ run M b′ (suc n′) t) → (x : Option End) → M .ended s ≡ x → (y : Option S) → M .next s ≡ y
           → run M (suc b) n s ≡ run M (suc b′) n′ s
