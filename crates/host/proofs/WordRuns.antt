@@ -13,7 +13,7 @@ use Rattle.memory.specs.Calls.{Called, position, handed, answered, word-called,
 use Rattle.memory.specs.declared.answers.Position.{Position}
 use Rattle.memory.specs.declared.answers.Run.{Run}
 use Rattle.packing.specs.Packed.{packed, ending}
-use Rattle.packing.specs.Answered.{word-ended}
+use Rattle.machine_packing.specs.Answered.{word-ended}
 use Rattle.host.specs.Entries.{stands-at, RunsOn}
 
 packs-run : (m : Memory) (at : Position) (a : Answer (Outcome W.State)) → word-ended (answered m at a .run .ended) ≡ packed ending a

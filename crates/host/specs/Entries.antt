@@ -20,8 +20,7 @@ use Rattle.memory.specs.declared.answers.Position.{Position}
 use Rattle.report.specs.Answers.{report-into}
 use Rattle.report.specs.declared.Reported.{Reported}
 use Rattle.report.specs.declared.Reported.the-variants as Reported
-use Rattle.packing.specs.Packed.{pack, packed, commands, sizes, listing-sizes, count, ending}
-use Rattle.packing.specs.Answered.{refusal}
+use Rattle.packing.specs.Packed.{pack, refusal, packed, commands, sizes, listing-sizes, count, ending}
 
 -- Under a setting, a text read into a lent list of three numbers a command: the variables and the commands
 pub record ReadsProgram (σ : Setting) (text : Bytes) (list : List ℕ) (r : ℕ) (list′ : List ℕ) : Type 0 where

@@ -1,6 +1,14 @@
 // The library for the tablets' host: entries on numbers and slices, to be called from C by include/mudzkvopi.h. Each entry hands its
 // arguments on to the crate that does the work, and packs what comes back into one number.
+use machine_packing::source_ended;
+use machine_packing::value_read;
+use machine_packing::word_ended;
+use machine_packing::word_read;
+use machine_packing::word_written;
 use memory::Position;
+use program_packing::program_read;
+use program_packing::program_written;
+use program_packing::translated;
 ghost use mathlib.Core.Path.{_≡_};
 ghost use lib.ListN.{length};
 ghost use Rattle.theory.specs.TurnedDown.{read-text-under, read-list-under, read-word-for, read-table-for};
@@ -24,7 +32,7 @@ pub extern "C" fn mudzkvopi_version() -> u32
 pub extern "C" fn mudzkvopi_read_program(setting: u32, text: &[u8], list: &mut [u8]) -> u64
     ensures { λ r. ⌜ ReadsProgram (setting-of setting) (now (text .entry)) (now (list .entry)) r (now (list .exit)) ⌝ }
 {
-    packing::program_read(program::read(packing::setting(setting), text, &mut *list))
+    program_read(program::read(packing::setting(setting), text, &mut *list))
 }
 
 // A list written as a text into lent bytes: rules 3 to 8 under a setting, then 19.
@@ -32,7 +40,7 @@ pub extern "C" fn mudzkvopi_read_program(setting: u32, text: &[u8], list: &mut [
 pub extern "C" fn mudzkvopi_write_program(setting: u32, list: &[u8], text: &mut [u8]) -> u64
     ensures { λ r. ⌜ WritesProgram (setting-of setting) (now (list .entry)) (now (text .entry)) r (now (text .exit)) ⌝ }
 {
-    packing::program_written(program::write(packing::setting(setting), list, &mut *text))
+    program_written(program::write(packing::setting(setting), list, &mut *text))
 }
 
 // A program handed in as text, translated in a form into a lent word: rules 1 to 8 under a setting, then 19.
@@ -42,7 +50,7 @@ pub extern "C" fn mudzkvopi_translate(setting: u32, form: u32, text: &[u8], word
         r (now (word .exit)) ⌝ }
 {
     let setting = packing::setting(setting);
-    packing::translated(translation::translate_text(setting, packing::form(form), text, &mut *word))
+    translated(translation::translate_text(setting, packing::form(form), text, &mut *word))
 }
 
 // A program handed in as a list, translated so: rules 3 to 8 under a setting, then 19.
@@ -57,7 +65,7 @@ pub extern "C" fn mudzkvopi_translate_list(
         r (now (word .exit)) ⌝ }
 {
     let setting = packing::setting(setting);
-    packing::translated(translation::translate_list(setting, packing::form(form), list, &mut *word))
+    translated(translation::translate_list(setting, packing::form(form), list, &mut *word))
 }
 
 // A listing handed in as text, translated into a lent word: rules 1 to 4 and 22, then 19.
@@ -65,7 +73,7 @@ pub extern "C" fn mudzkvopi_translate_list(
 pub extern "C" fn mudzkvopi_translate_listing(text: &[u8], word: &mut [u8]) -> u64
     ensures { λ r. ⌜ TranslatesListing (read-listing (now (text .entry))) (now (word .entry)) r (now (word .exit)) ⌝ }
 {
-    packing::translated(listings::translate(text, &mut *word))
+    translated(listings::translate(text, &mut *word))
 }
 
 // A program handed in as text, run from a state of 82 numbers: rules 1 to 8 under a setting, then 9.
@@ -79,7 +87,7 @@ pub extern "C" fn mudzkvopi_run_source(
     ensures { λ r. ⌜ RunsSource (read-text-under (setting-of setting) (now (text .entry))) (now (state .entry)) budget
         r (now (state .exit)) ⌝ }
 {
-    packing::source_ended(states::run_text(packing::setting(setting), text, &mut *state, budget))
+    source_ended(states::run_text(packing::setting(setting), text, &mut *state, budget))
 }
 
 // A program handed in as a list, run so: rules 3 to 8 under a setting, then 9.
@@ -93,7 +101,7 @@ pub extern "C" fn mudzkvopi_run_source_list(
     ensures { λ r. ⌜ RunsSource (read-list-under (setting-of setting) (now (list .entry))) (now (state .entry)) budget
         r (now (state .exit)) ⌝ }
 {
-    packing::source_ended(states::run_list(packing::setting(setting), list, &mut *state, budget))
+    source_ended(states::run_list(packing::setting(setting), list, &mut *state, budget))
 }
 
 // A word read into kinds and operands: rules 11 to 14, then 19.
@@ -102,7 +110,7 @@ pub extern "C" fn mudzkvopi_read_word(word: &[u8], kinds: &mut [u8], operands: &
     ensures { λ r. ⌜ ReadsWord (now (word .entry)) (now (kinds .entry)) (now (operands .entry))
         r (now (kinds .exit)) (now (operands .exit)) ⌝ }
 {
-    packing::word_read(word::read(word, &mut *kinds, &mut *operands))
+    word_read(word::read(word, &mut *kinds, &mut *operands))
 }
 
 // Kinds and operands written as a word: rules 11, 13 and 14 as for tables, then 19.
@@ -110,7 +118,7 @@ pub extern "C" fn mudzkvopi_read_word(word: &[u8], kinds: &mut [u8], operands: &
 pub extern "C" fn mudzkvopi_write_word(kinds: &[u8], operands: &[u32], word: &mut [u8]) -> u64
     ensures { λ r. ⌜ WritesWord (zipped (now (kinds .entry)) (now (operands .entry))) (now (word .entry)) r (now (word .exit)) ⌝ }
 {
-    packing::word_written(table::write(kinds, operands, &mut *word))
+    word_written(table::write(kinds, operands, &mut *word))
 }
 
 // A word run on a lent machine, of as many registers as capacities, from a lent place and count of steps: rule 10, then 11 to 15.
@@ -137,7 +145,7 @@ pub extern "C" fn mudzkvopi_run_word(
     let ended = run.ended;
     *place = there;
     *steps = run.position.steps;
-    packing::word_ended(ended)
+    word_ended(ended)
 }
 
 // Kinds and operands run so: rule 10, then 11, 13, 14 and 15 as for tables.
@@ -174,7 +182,7 @@ pub extern "C" fn mudzkvopi_run_table(
     let ended = ran.ended;
     *place = there;
     *steps = ran.position.steps;
-    packing::word_ended(ended)
+    word_ended(ended)
 }
 
 // The value that a lent machine's registers have: rule 10.
@@ -182,7 +190,7 @@ pub extern "C" fn mudzkvopi_run_table(
 pub extern "C" fn mudzkvopi_value(capacities: &[u16], store: &[u8], lengths: &[u16]) -> u64
     ensures { λ r. ⌜ r ≡ packed symbols (value-of (memory (now (capacities .entry)) (now (store .entry)) (now (lengths .entry)))) ⌝ }
 {
-    packing::value_read(memory::value(capacities, store, lengths))
+    value_read(memory::value(capacities, store, lengths))
 }
 
 // A report, by its bytes.

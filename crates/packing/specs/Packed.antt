@@ -9,6 +9,7 @@ use Rattle.theory.specs.ProgramText.{Command, variables}
 use Rattle.theory.specs.Runs.{Outcome}
 use Rattle.theory.specs.Machines.{Value, valued, untidy}
 use Rattle.theory.specs.TurnedDown.{Answer, done, refused}
+use Rattle.theory.specs.declared.Refusal.{Refusal}
 use Rattle.theory.specs.declared.End.{End}
 use Rattle.theory.specs.declared.End.the-variants.{Halted, Strayed, Spent, Full}
 use Rattle.theory.specs.declared.Setting.{Setting}
@@ -37,10 +38,14 @@ end-number Strayed = 2
 end-number Spent = 3
 end-number Full = 4
 
--- A result, packed by f, or the refusal: the rule's number and the place
+-- A refusal: the rule's number and the place
+abbrev pub refusal : Refusal → ℕ
+refusal r = pack 255 (r .number) (r .place)
+
+-- A result, packed by f, or the refusal
 unfoldable pub packed : {A : Type 0} → (A → ℕ) → Answer A → ℕ
 packed f (done a) = f a
-packed f (refused r) = pack 255 (r .number) (r .place)
+packed f (refused r) = refusal r
 
 -- A program: its variables and its commands
 abbrev pub commands : List Command → ℕ

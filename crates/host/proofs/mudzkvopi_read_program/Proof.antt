@@ -1,8 +1,8 @@
 -- `mudzkvopi_read_program` meets its contract, since `program::read` meets its own.
 use borrow.Author.Needs.{needs}
 use mathlib.Core.Path.{ap, _∙_}
-use Rattle.packing.specs.Answered.{program-read}
-use Rattle.packing.proofs.Packs.{packs-program-read}
+use Rattle.program_packing.specs.Answered.{program-read}
+use Rattle.program_packing.proofs.Packs.{packs-program-read}
 use Rattle.host.proofs.mudzkvopi_read_program.Statement.{statement}
 use Rattle.host.proofs.mudzkvopi_read_program.Tie as tie
 

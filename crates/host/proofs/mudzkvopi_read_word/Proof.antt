@@ -1,8 +1,8 @@
 -- `mudzkvopi_read_word` meets its contract, since `word::read` meets its own.
 use borrow.Author.Needs.{needs}
 use mathlib.Core.Path.{ap, _∙_}
-use Rattle.packing.specs.Answered.{word-read}
-use Rattle.packing.proofs.Packs.{packs-word-read}
+use Rattle.machine_packing.specs.Answered.{word-read}
+use Rattle.machine_packing.proofs.Packs.{packs-word-read}
 use Rattle.host.proofs.mudzkvopi_read_word.Statement.{statement}
 use Rattle.host.proofs.mudzkvopi_read_word.Tie as tie
 

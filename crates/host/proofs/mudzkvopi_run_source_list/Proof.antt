@@ -1,8 +1,8 @@
 -- `mudzkvopi_run_source_list` meets its contract, since `states::run_list` meets its own.
 use borrow.Author.Needs.{needs}
 use mathlib.Core.Path.{ap, _∙_}
-use Rattle.packing.specs.Answered.{source-ended}
-use Rattle.packing.proofs.Packs.{packs-source}
+use Rattle.machine_packing.specs.Answered.{source-ended}
+use Rattle.machine_packing.proofs.Packs.{packs-source}
 use Rattle.host.proofs.mudzkvopi_run_source_list.Statement.{statement}
 use Rattle.host.proofs.mudzkvopi_run_source_list.Tie as tie
 

@@ -6,7 +6,7 @@ use Rattle.theory.specs.TurnedDown.{Answer, done, refused}
 use Rattle.listing.specs.Listing.{Line}
 use Rattle.listings.specs.Answers as Listings
 use Rattle.packing.specs.Packed.{packed, listing-sizes}
-use Rattle.packing.specs.Answered.{translated}
+use Rattle.program_packing.specs.Answered.{translated}
 use Rattle.host.proofs.mudzkvopi_translate_listing.Statement.{statement}
 use Rattle.host.proofs.mudzkvopi_translate_listing.Tie as tie
 

@@ -1,8 +1,8 @@
 -- `mudzkvopi_value` meets its contract, since `memory::value` meets its own.
 use borrow.Author.Needs.{needs}
 use mathlib.Core.Path.{ap, _∙_}
-use Rattle.packing.specs.Answered.{value-read}
-use Rattle.packing.proofs.Packs.{packs-value}
+use Rattle.machine_packing.specs.Answered.{value-read}
+use Rattle.machine_packing.proofs.Packs.{packs-value}
 use Rattle.host.proofs.mudzkvopi_value.Statement.{statement}
 use Rattle.host.proofs.mudzkvopi_value.Tie as tie
 

@@ -1,8 +1,8 @@
 -- `mudzkvopi_write_program` meets its contract, since `program::write` meets its own.
 use borrow.Author.Needs.{needs}
 use mathlib.Core.Path.{ap, _∙_}
-use Rattle.packing.specs.Answered.{program-written}
-use Rattle.packing.proofs.Packs.{packs-program-written}
+use Rattle.program_packing.specs.Answered.{program-written}
+use Rattle.program_packing.proofs.Packs.{packs-program-written}
 use Rattle.host.proofs.mudzkvopi_write_program.Statement.{statement}
 use Rattle.host.proofs.mudzkvopi_write_program.Tie as tie
 

@@ -1,8 +1,8 @@
 -- `mudzkvopi_write_word` meets its contract, since `word::write` meets its own.
 use borrow.Author.Needs.{needs}
 use mathlib.Core.Path.{ap, _∙_}
-use Rattle.packing.specs.Answered.{word-written}
-use Rattle.packing.proofs.Packs.{packs-word-written}
+use Rattle.machine_packing.specs.Answered.{word-written}
+use Rattle.machine_packing.proofs.Packs.{packs-word-written}
 use Rattle.host.proofs.mudzkvopi_write_word.Statement.{statement}
 use Rattle.host.proofs.mudzkvopi_write_word.Tie as tie
 

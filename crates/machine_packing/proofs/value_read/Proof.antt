@@ -1,6 +1,6 @@
 -- `value_read` meets its contract, by the variant.
-use Rattle.packing.proofs.value_read.Statement.{statement}
-use Rattle.packing.proofs.value_read.Tie as tie
+use Rattle.machine_packing.proofs.value_read.Statement.{statement}
+use Rattle.machine_packing.proofs.value_read.Tie as tie
 
 enum-known-value : tie.Need-enum-known-value
 enum-known-value c = c .match .keys1

@@ -2,9 +2,9 @@
 use borrow.Author.Needs.{needs}
 use mathlib.Core.Path.{ap, _∙_}
 use Prim.Native.Nat.{ℕ}
 use Rattle.packing.specs.Packed.{pack}
-use Rattle.packing.proofs.ended.Statement.{statement}
-use Rattle.packing.proofs.ended.Tie as tie
+use Rattle.machine_packing.proofs.ended.Statement.{statement}
+use Rattle.machine_packing.proofs.ended.Tie as tie
 
 number-requires : tie.Need-number-requires
 number-requires c κs = search needs

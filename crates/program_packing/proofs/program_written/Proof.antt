@@ -1,6 +1,6 @@
--- `word_written` meets its contract, by the variant.
-use Rattle.packing.proofs.word_written.Statement.{statement}
-use Rattle.packing.proofs.word_written.Tie as tie
+-- `program_written` meets its contract, by the variant.
+use Rattle.program_packing.proofs.program_written.Statement.{statement}
+use Rattle.program_packing.proofs.program_written.Tie as tie
 
 enum-known-written : tie.Need-enum-known-written
 enum-known-written c = c .match .keys1
@@ -20,8 +20,8 @@ returns c = rw (c .before .before .written .given .1) (c .pack .ensures)
 returns-2 : tie.Need-returns-2
 returns-2 c = rw (c .before .before .written2 .given .1) (c .refused .ensures)
 
-pub word-written-spec : {M : Type 1} → statement M
-word-written-spec =
+pub program-written-spec : {M : Type 1} → statement M
+program-written-spec =
     tie.close
     (tie.spec
     enum-known-written

@@ -1,6 +1,6 @@
 -- `translated` meets its contract, by the variant.
-use Rattle.packing.proofs.translated.Statement.{statement}
-use Rattle.packing.proofs.translated.Tie as tie
+use Rattle.program_packing.proofs.translated.Statement.{statement}
+use Rattle.program_packing.proofs.translated.Tie as tie
 
 enum-known-answer : tie.Need-enum-known-answer
 enum-known-answer c = c .match .keys1

@@ -1,6 +1,6 @@
 -- `source_ended` meets its contract, by the variant.
-use Rattle.packing.proofs.source_ended.Statement.{statement}
-use Rattle.packing.proofs.source_ended.Tie as tie
+use Rattle.machine_packing.proofs.source_ended.Statement.{statement}
+use Rattle.machine_packing.proofs.source_ended.Tie as tie
 
 enum-known-run : tie.Need-enum-known-run
 enum-known-run c = c .match .keys1

@@ -1,6 +1,6 @@
 -- `number` meets its contract, by the variant.
-use Rattle.packing.proofs.number.Statement.{statement}
-use Rattle.packing.proofs.number.Tie as tie
+use Rattle.machine_packing.proofs.number.Statement.{statement}
+use Rattle.machine_packing.proofs.number.Tie as tie
 
 enum-told : tie.Need-enum-told
 enum-told c = c .match .keys1
