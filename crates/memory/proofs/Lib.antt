@@ -1,5 +1,3 @@
 pub mod Rest
 pub mod RegisterOne
 pub mod Values
-pub mod Filling
-pub mod CanHold

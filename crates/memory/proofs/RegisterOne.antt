@@ -19,7 +19,7 @@ use Rattle.theory.proofs.Values.{all-below-same}
 use Rattle.memory.specs.declared.answers.Value.{Value}
 use Rattle.memory.specs.declared.answers.Value.the-variants as Value
 use Rattle.memory.specs.Calls.{Valued}
-use Rattle.memory.specs.Held.{rest-empty}
+use Rattle.memory.specs.Rest.{rest-empty}
 
 pub value-refused : (m : Memory) → is-memory m ≡ false → Valued m (Value.Refused (record { number = 10; place = 0 }))
 unfolding rule-10

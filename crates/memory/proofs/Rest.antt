@@ -9,7 +9,7 @@ use lib.Dec.{eqb}
 use lib.ListN.{length, getD}
 use Rattle.theory.specs.Basics.{all-below}
 use Rattle.theory.proofs.GoodMemory.{both, all-below-fails}
-use Rattle.memory.specs.Held.{rest-empty}
+use Rattle.memory.specs.Rest.{rest-empty}
 
 module _ (lengths : List ℕ) where
   abbrev empty-after : ℕ → Bool

@@ -1,4 +1,3 @@
-pub mod Held
+pub mod Rest
 pub mod Calls
 pub mod Values
-pub mod Fresh

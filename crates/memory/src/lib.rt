@@ -1,16 +1,13 @@
-// The memory of a machine of document 01, "Machines of the set": its fresh registers, its value, and what a run hands back.
+// The memory of a machine of document 01, "Machines of the set": its value, and what a run hands back.
 mod answers;
-mod fresh;
 
 pub use answers::Ended;
-pub use answers::Laid;
-pub use answers::Machine;
 pub use answers::Position;
 pub use answers::Run;
 pub use answers::Value;
 ghost use mathlib.Core.Path.{_≡_};
 ghost use Rattle.memory.specs.Calls.{memory, Valued};
-ghost use Rattle.memory.specs.Held.{rest-empty};
+ghost use Rattle.memory.specs.Rest.{rest-empty};
 use layout::wide;
 use rule10::is_memory;
 use theory::Refusal;

@@ -11,8 +11,8 @@ use Rattle.theory.specs.Text.{Bytes}
 use Rattle.theory.specs.Machines.{Memory, offset, holding, refilled}
 use Rattle.theory.proofs.GoodMemory.{all-below-from}
 use Rattle.theory.proofs.Offsets.{offset-whole}
-use Rattle.memory.specs.Fresh.{values-within, can-hold, fresh-memory, LaysFresh}
-use Rattle.memory.specs.declared.answers.Laid.{Laid}
+use Rattle.registers.specs.Fresh.{values-within, can-hold, fresh-memory, LaysFresh}
+use Rattle.registers.specs.declared.Laid.{Laid}
 use Rattle.report.specs.Fresh.{values-of, IsSet, Starts}
 use Rattle.report.proofs.Sets.{registers, limited}
 

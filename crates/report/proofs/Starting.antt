@@ -26,7 +26,7 @@ use Rattle.theory.proofs.GoodSource.{Stood, stood-is-source, run-stands}
 use Rattle.theory.proofs.GoodMemory.{Fits, Good, good-is-memory, refilled-good, contents-refilled, contents-beyond}
 use Rattle.theory.proofs.Rooms.{same-machine}
 use Rattle.capacities.specs.Room.{of-variables}
-use Rattle.memory.proofs.Filling.{zeros-at, length-ones}
+use Rattle.registers.proofs.Filling.{zeros-at, length-ones}
 use Rattle.report.specs.Fresh.{values-of, IsSet, Starts}
 use Rattle.report.proofs.Sets.{registers, limited, capacity-low, variable-capacity, variables-limited}
 use Rattle.report.proofs.Fresh.{word-memory, Filled}

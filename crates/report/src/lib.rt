@@ -2,12 +2,12 @@
 // same on registers of other capacities (document 02, request 5).
 mod rows; // rows.rt: the runs of a row
 
-use memory::Machine;
 use printing::put_header;
 use printing::put_refusal;
 use printing::put_row;
 use program::Checked;
 use program::Program;
+use registers::Machine;
 use rows::run_row;
 use sheet::Names;
 use theory::Refusal;

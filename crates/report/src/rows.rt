@@ -1,7 +1,7 @@
 // The runs of a row: the word's from a fresh machine, and the source's from a fresh state of the same values.
-use memory::Machine;
 use printing::Ended;
 use printing::Row;
+use registers::Machine;
 use source::State;
 use theory::End;
 use theory::Setting;

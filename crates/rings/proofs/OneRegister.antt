@@ -11,7 +11,7 @@ use Rattle.theory.specs.Machines as M
 use Rattle.theory.specs.Machines.{offset, laid}
 use Rattle.theory.proofs.GoodMemory.{place-in-store}
 use Rattle.theory.proofs.Offsets.{offset-next}
-use Rattle.memory.specs.Held.{Held}
+use Rattle.registers.specs.Held.{Held}
 
 -- One place
 

@@ -14,7 +14,7 @@ use Rattle.theory.specs.Word.{Symbol}
 use Rattle.theory.specs.Machines.{offset, laid}
 use Rattle.theory.proofs.GoodMemory.{length-laid}
 use Rattle.theory.proofs.Offsets.{offset-whole, place-inside}
-use Rattle.memory.specs.Held.{Held}
+use Rattle.registers.specs.Held.{Held}
 use Rattle.order.specs.Order.{from-start, turned, in-order}
 use Rattle.order.proofs.Turning.{turned-as, turned-length}
 use Rattle.rings.specs.Ring.{Ring, wrapped}

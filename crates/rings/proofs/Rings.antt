@@ -16,7 +16,7 @@ use Rattle.theory.proofs.Cells.{put-same, put-other}
 use Rattle.theory.proofs.GoodMemory.{length-laid, length-store, length-cells, getD-cells}
 use Rattle.theory.proofs.Offsets.{offset-whole, places-apart, place-inside}
 use Rattle.rule10.specs.Lent.{Sized}
-use Rattle.memory.specs.Held.{Held}
+use Rattle.registers.specs.Held.{Held}
 use Rattle.rings.specs.Ring.{Ring, Zeros, Appended, Deleted, wrapped}
 use Rattle.rings.proofs.Registers.{lengths-put}
 use Rattle.rings.proofs.OneRegister.{laid-append, laid-next, laid-last, held-byte}

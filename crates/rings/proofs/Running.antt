@@ -23,7 +23,7 @@ use Rattle.theory.proofs.Faults.{and-first, and-second}
 use Rattle.theory.proofs.GoodMemory.{memory-is-good, contents-fit, contents-stored, contents-counted}
 use Rattle.rings.specs.declared.effect.Step.the-variants as Step
 use Rattle.rule10.specs.Lent.{Sized}
-use Rattle.memory.specs.Held.{Held}
+use Rattle.registers.specs.Held.{Held}
 use Rattle.memory.specs.Calls.{memory}
 use Rattle.rule10.proofs.Sizes.{are-sized}
 use Rattle.rings.specs.Ring.{Ring, Zeros}

@@ -23,7 +23,7 @@ use Rattle.memory.specs.declared.answers.Run.{Run}
 use Rattle.rings.specs.declared.runs.Stop.{Stop}
 use Rattle.memory.specs.declared.answers.Ended.the-variants.{Ran}
 use Rattle.word.specs.Answers.{zipped}
-use Rattle.memory.specs.Held.{Held}
+use Rattle.registers.specs.Held.{Held}
 use Rattle.rings.specs.Steps.{Usables, bias, number-of, placed}
 use Rattle.rings.specs.Inside.{Stopped, run-from, ran-to}
 use Rattle.memory.specs.Calls.{Called, memory, position, handed, ran, stands-outside}

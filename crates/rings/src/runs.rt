@@ -18,10 +18,10 @@ use crate::effect::perform;
 use crate::effect::place_of;
 use layout::offsets;
 use memory::Ended;
-use memory::Machine;
 use memory::Position;
 use memory::Run;
 use order::put_in_order;
+use registers::Machine;
 use theory::End;
 
 // Where a run inside stopped, how, and after how many steps.

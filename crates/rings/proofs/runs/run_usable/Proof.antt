@@ -12,7 +12,7 @@ use Rattle.theory.specs.Machines.{run-word}
 use Rattle.theory.specs.TurnedDown.{instructions}
 use Rattle.word.specs.Answers.{zipped}
 use Rattle.memory.specs.Calls.{memory, position}
-use Rattle.memory.proofs.Filling.{zeros-at}
+use Rattle.registers.proofs.Filling.{zeros-at}
 use Rattle.layout.proofs.OffsetTable.{length-offsets, offsets-at}
 use Rattle.rings.specs.Ring.{Ring}
 use Rattle.rings.specs.Steps.{bias, number-of}

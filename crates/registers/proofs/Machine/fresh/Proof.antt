@@ -2,14 +2,14 @@
 use mathlib.Core.Path.{_≡_, sym, _∙_}
 use mathlib.Core.Bool.{true}
 use Rattle.theory.specs.Machines.{Memory}
-use Rattle.memory.specs.Calls.{memory}
-use Rattle.memory.specs.Fresh.{can-hold}
+use Rattle.rule10.specs.Lent.{memory}
+use Rattle.registers.specs.Fresh.{can-hold}
 use Rattle.rule10.proofs.Sizes.{are-sized}
-use Rattle.memory.proofs.CanHold.{holds-sized, holds-each, lays-none, lays-all}
+use Rattle.registers.proofs.CanHold.{holds-sized, holds-each, lays-none, lays-all}
 use borrow.Author.Needs.{needs}
 use borrow.Author.Tests.{not-true, not-false}
-use Rattle.memory.proofs.answers.Machine.fresh.Statement.{statement}
-use Rattle.memory.proofs.answers.Machine.fresh.Tie as tie
+use Rattle.registers.proofs.Machine.fresh.Statement.{statement}
+use Rattle.registers.proofs.Machine.fresh.Tie as tie
 
 fits-requires : tie.Need-fits-requires
 fits-requires c κs = search needs

@@ -1,8 +1,8 @@
 -- `lay` meets its contract: two runs fill the place.
 use borrow.Author.Needs.{needs}
-use Rattle.memory.proofs.Filling.{runs-laid}
-use Rattle.memory.proofs.fresh.lay.Statement.{statement}
-use Rattle.memory.proofs.fresh.lay.Tie as tie
+use Rattle.registers.proofs.Filling.{runs-laid}
+use Rattle.registers.proofs.fresh.lay.Statement.{statement}
+use Rattle.registers.proofs.fresh.lay.Tie as tie
 
 sub-rest : tie.Need-sub-rest
 sub-rest c = search needs

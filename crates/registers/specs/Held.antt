@@ -1,18 +1,11 @@
 -- What the crate's own functions promise each other: registers laid out in a lent store.
 use mathlib.Core.Path.{_≡_}
-use mathlib.Core.Bool.{Bool}
 use mathlib.Core.List.{List}
-use Prim.Native.Nat.{ℕ, suc, _+_, _-_, _≤_, _<_}
-use lib.Dec.{eqb}
+use Prim.Native.Nat.{ℕ, suc, _≤_, _<_}
 use lib.ListN.{length, getD}
-use Rattle.theory.specs.Basics.{all-below}
 use Rattle.theory.specs.Text.{Bytes}
 use Rattle.theory.specs.Word.{Symbol}
 use Rattle.theory.specs.Machines.{store-of, lengths-of}
-
--- All lengths but the first are 0
-abbrev pub rest-empty : List ℕ → Bool
-rest-empty lengths = all-below (length lengths - 1) λ i. eqb (getD lengths (i + 1) 0) 0
 
 -- The registers f, one for each capacity, laid out in a store
 pub record Held (capacities : List ℕ) (f : ℕ → List Symbol) (store : Bytes) (lengths : List ℕ) : Type 0 where

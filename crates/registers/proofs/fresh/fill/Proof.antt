@@ -6,11 +6,11 @@ use borrow.Author.Needs.{needs}
 use lib.ListN.{length, drop, getD, length-drop}
 use lib.Seq.{length-take-le}
 use Rattle.layout.specs.Offsets.{offsets-of}
-use Rattle.memory.specs.Fresh.{fresh-registers}
+use Rattle.registers.specs.Fresh.{fresh-registers}
 use Rattle.layout.proofs.OffsetTable.{table-at, table-after, table-next, table-inside}
-use Rattle.memory.proofs.Filling.{Filling, filling-none, filling-all, filling-next, fresh-length}
-use Rattle.memory.proofs.fresh.fill.Statement.{statement}
-use Rattle.memory.proofs.fresh.fill.Tie as tie
+use Rattle.registers.proofs.Filling.{Filling, filling-none, filling-all, filling-next, fresh-length}
+use Rattle.registers.proofs.fresh.fill.Statement.{statement}
+use Rattle.registers.proofs.fresh.fill.Tie as tie
 
 abbrev Inv-loop : tie.InvT-loop
 Inv-loop capacities store₀ lengths₀ values places i₀ store lengths i =

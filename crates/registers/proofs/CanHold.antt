@@ -13,9 +13,9 @@ use Rattle.theory.specs.Text.{Bytes}
 use Rattle.theory.specs.Machines.{Memory, count, is-sized}
 use Rattle.theory.proofs.Faults.{and-first, and-second}
 use Rattle.theory.proofs.GoodMemory.{both, all-below-at, all-below-fails}
-use Rattle.memory.specs.Held.{Held}
-use Rattle.memory.specs.Fresh.{values-within, can-hold, fresh-registers, fresh-memory, LaysFresh}
-use Rattle.memory.specs.declared.answers.Laid.the-variants as Laid
+use Rattle.registers.specs.Held.{Held}
+use Rattle.registers.specs.Fresh.{values-within, can-hold, fresh-registers, fresh-memory, LaysFresh}
+use Rattle.registers.specs.declared.Laid.the-variants as Laid
 
 module _ (m : Memory) (values : List ℕ) where
   pub not-sized : is-sized m ≡ false → can-hold m values ≡ false

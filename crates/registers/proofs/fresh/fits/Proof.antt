@@ -1,11 +1,11 @@
 -- `fits` meets its contract: the sizes, the number of values, and then each of them.
 use mathlib.Core.Path.{sym, _∙_}
-use Rattle.memory.specs.Calls.{memory}
-use Rattle.memory.proofs.CanHold.{not-sized, too-many, by-values}
+use Rattle.rule10.specs.Lent.{memory}
+use Rattle.registers.proofs.CanHold.{not-sized, too-many, by-values}
 use borrow.Author.Needs.{needs}
 use borrow.Author.Tests.{not-true, not-false}
-use Rattle.memory.proofs.fresh.fits.Statement.{statement}
-use Rattle.memory.proofs.fresh.fits.Tie as tie
+use Rattle.registers.proofs.fresh.fits.Statement.{statement}
+use Rattle.registers.proofs.fresh.fits.Tie as tie
 
 is-sized-requires : tie.Need-is-sized-requires
 is-sized-requires c κs = search needs

@@ -17,10 +17,10 @@ use Rattle.theory.specs.Word.{Symbol, bytes-of}
 use Rattle.theory.specs.Machines.{offset, ones, laid, store-of, lengths-of}
 use Rattle.theory.proofs.GoodMemory.{length-laid, length-cells, getD-cells}
 use Rattle.theory.proofs.Offsets.{offset-next, offset-past, place-inside}
-use Rattle.memory.specs.Held.{Held}
+use Rattle.registers.specs.Held.{Held}
 use Rattle.output.specs.Puts.{starting}
 use Rattle.output.proofs.Puts.{starting-whole}
-use Rattle.memory.specs.Fresh.{fresh-registers}
+use Rattle.registers.specs.Fresh.{fresh-registers}
 use Rattle.layout.proofs.OffsetTable.{agrees-next}
 
 pub zeros-at : (m i : ℕ) → _≡_ {A = ℕ} 0 (getD (replicate m 0) i 0)

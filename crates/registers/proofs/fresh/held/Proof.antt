@@ -2,8 +2,8 @@
 use mathlib.Core.Path.{sym}
 use lib.ListN.{List·getD-eq-default}
 use borrow.Author.Needs.{needs}
-use Rattle.memory.proofs.fresh.held.Statement.{statement}
-use Rattle.memory.proofs.fresh.held.Tie as tie
+use Rattle.registers.proofs.fresh.held.Statement.{statement}
+use Rattle.registers.proofs.fresh.held.Tie as tie
 
 mul-wide : tie.Need-mul-wide
 mul-wide c = search needs

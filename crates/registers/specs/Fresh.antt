@@ -10,8 +10,8 @@ use Rattle.theory.specs.Text.{Bytes}
 use Rattle.theory.specs.Word.{Symbol}
 use Rattle.theory.specs.Machines.{Memory, count, holding, is-sized, refilled}
 use Rattle.theory.specs.TurnedDown.{Answer, done, refused, answer, unless}
-use Rattle.memory.specs.declared.answers.Laid.{Laid}
-use Rattle.memory.specs.declared.answers.Laid.the-variants as Laid
+use Rattle.registers.specs.declared.Laid.{Laid}
+use Rattle.registers.specs.declared.Laid.the-variants as Laid
 
 -- Register i + 1 holds as many 1s as value i, and every other register is empty
 abbrev pub fresh-registers : List ℕ → ℕ → List Symbol

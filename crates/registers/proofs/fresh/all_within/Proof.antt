@@ -2,10 +2,10 @@
 use mathlib.Core.Path.{sym}
 use Prim.Native.Nat.{_-_}
 use lib.ListN.{length}
-use Rattle.memory.proofs.CanHold.{WithinTo, within-none, within-more, within-fails, within-all}
+use Rattle.registers.proofs.CanHold.{WithinTo, within-none, within-more, within-fails, within-all}
 use borrow.Author.Needs.{needs}
-use Rattle.memory.proofs.fresh.all_within.Statement.{statement}
-use Rattle.memory.proofs.fresh.all_within.Tie as tie
+use Rattle.registers.proofs.fresh.all_within.Statement.{statement}
+use Rattle.registers.proofs.fresh.all_within.Tie as tie
 
 abbrev Inv-loop : tie.InvT-loop
 Inv-loop capacities values i₀ i = WithinTo capacities values i
