@@ -10,10 +10,10 @@ use Rattle.theory.specs.TurnedDown.{mapped, lent-after, table-fault, read-table
 use Rattle.theory.specs.declared.Refusal.{Refusal}
 use Rattle.theory.proofs.Words.{table-good}
 use Rattle.records.specs.Answers.{no-numbers, gathered}
-use Rattle.table.specs.Tables.{tally-of}
+use Rattle.tally.specs.Tallies.{tally-of}
 use Rattle.records.specs.Records.{judged-count, numbers-of, finished}
 use Rattle.word.proofs.Fills.{put-first, put-none, put-all}
-use Rattle.table.proofs.Counts.{judged-tally}
+use Rattle.tally.proofs.Counts.{judged-tally}
 use Rattle.records.proofs.Copies.{kind-in, operand-in}
 
 module _ (t : List Entry) where

@@ -9,11 +9,11 @@ use lib.Seq.{length-take-le, take-suc, take-all}
 use Rattle.theory.specs.Word.{Entry}
 use Rattle.theory.proofs.Words.{entry}
 use Rattle.word.specs.declared.answers.Instruction.{Instruction}
-use Rattle.table.specs.declared.tally.Tally.{Tally}
+use Rattle.tally.specs.declared.Tally.{Tally}
 use Rattle.word.specs.Answers.{entry-of, entries-of}
-use Rattle.table.specs.Tables.{longest, tally-of, noted}
+use Rattle.tally.specs.Tallies.{longest, tally-of, noted}
 use Rattle.records.specs.Records.{no-tally}
-use Rattle.table.proofs.Counts.{tally-none, tally-more}
+use Rattle.tally.proofs.Counts.{tally-none, tally-more}
 
 abbrev pub no-record : Instruction
 no-record = record { kind = 0; operand = 0 }

@@ -16,9 +16,9 @@ use Rattle.word.specs.declared.answers.Instruction.{Instruction}
 use Rattle.word.specs.declared.answers.Written.{Written}
 use Rattle.word.specs.declared.answers.Written.the-variants.{Done, Refused}
 use Rattle.word.specs.Answers.{entry-of, entries-of, WritesInto}
-use Rattle.table.specs.declared.tally.Tally.{Tally}
-use Rattle.table.specs.Tables.{tally-of, answered}
-use Rattle.table.proofs.Spelling.{wrote, left}
+use Rattle.tally.specs.declared.Tally.{Tally}
+use Rattle.tally.specs.Tallies.{tally-of, answered}
+use Rattle.tally.proofs.Spelling.{wrote, left}
 use Rattle.records.specs.Records.{written-count}
 use Rattle.records.proofs.Tallies.{no-record}
 

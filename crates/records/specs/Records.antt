@@ -15,10 +15,10 @@ use Rattle.word.specs.declared.answers.Read.the-variants as R
 use Rattle.word.specs.declared.answers.Written.{Written}
 use Rattle.word.specs.declared.answers.Written.the-variants as W
 use Rattle.records.specs.declared.Numbers.{Numbers}
-use Rattle.table.specs.declared.tally.Tally.{Tally}
+use Rattle.tally.specs.declared.Tally.{Tally}
 use Rattle.word.specs.Answers.{kinds-of, operands-of, records-of}
 use Rattle.records.specs.Answers.{no-numbers}
-use Rattle.table.specs.Tables.{judged}
+use Rattle.tally.specs.Tallies.{judged}
 
 -- Reading
 

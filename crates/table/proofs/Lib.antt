@@ -1,4 +1,2 @@
 pub mod Flags
-pub mod Counts
 pub mod Passing
-pub mod Spelling

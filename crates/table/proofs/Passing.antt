@@ -11,7 +11,8 @@ use Rattle.theory.specs.Machines.{is-limited}
 use Rattle.theory.proofs.Faults.{and-first, and-second}
 use Rattle.theory.proofs.Words.{entry}
 use Rattle.word.specs.Answers.{zipped}
-use Rattle.table.specs.Tables.{is-good, IsKind, sum, AllGood}
+use Rattle.tally.specs.Tallies.{is-good}
+use Rattle.table.specs.Tables.{IsKind, sum, AllGood}
 use Rattle.text.proofs.Runs.{leading-pass, leading-nil}
 
 -- One number more

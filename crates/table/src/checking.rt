@@ -7,9 +7,9 @@ ghost use lib.ListN.{length, getD};
 ghost use Rattle.theory.specs.TurnedDown.{read-table};
 ghost use Rattle.word.specs.Answers.{zipped, read-answer};
 ghost use Rattle.table.specs.Tables.{IsKind, Summed};
-use crate::tally::counted;
-use crate::tally::is_kind;
-use crate::tally::judge;
+use crate::numbers::counted;
+use tally::is_kind;
+use tally::judge;
 use word::Instruction;
 use word::Read;
 

@@ -3,40 +3,13 @@ ghost use mathlib.Core.Path.{_≡_};
 ghost use Rattle.word.specs.Answers.{zipped, WritesInto};
 ghost use Rattle.output.specs.Puts.{starting};
 ghost use Rattle.instruction.specs.Instructions.{text};
-ghost use Rattle.table.specs.Tables.{answered};
-use crate::tally::Tally;
-use crate::tally::counted;
-use crate::tally::judge;
-use crate::tally::kind_at;
-use crate::tally::longer;
-use crate::tally::operand_at;
+use crate::numbers::counted;
+use crate::numbers::kind_at;
+use crate::numbers::longer;
+use crate::numbers::operand_at;
 use instruction::put_instruction;
-use theory::Refusal;
-use word::Read;
+use tally::answer_for;
 use word::Written;
-
-// The refusal of a rule at a place.
-fn turned_down(number: u32, place: usize) -> Written
-    ensures { λ r. ⌜ r ≡ Written.Refused (record { number = number; place = place }) ⌝ }
-{
-    Written::Refused(Refusal { number, place })
-}
-
-// What is answered for a table of this tally and a word of so many bytes: rules 11, 13 and 14, then 19.
-pub fn answer_for(t: Tally, room: usize) -> Written
-    ensures { λ r. ⌜ r ≡ answered t room ⌝ }
-{
-    let size = t.size;
-    match judge(t) {
-        Read::Done(_) => {
-            if room < size {
-                return turned_down(19, 0);
-            }
-            Written::Done(size)
-        }
-        Read::Refused(r) => Written::Refused(r),
-    }
-}
 
 // All entries of a table, put at the front of a word.
 fn spell(kinds: &[u8], operands: &[u32], word: &mut [u8])

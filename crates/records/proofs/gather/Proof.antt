@@ -45,10 +45,10 @@ use Rattle.theory.specs.Word.{Entry}
 use Rattle.records.specs.declared.Gathered.{Gathered}
 use Rattle.word.specs.declared.answers.Instruction.{Instruction}
 use Rattle.records.specs.declared.Numbers.{Numbers}
-use Rattle.table.specs.declared.tally.Tally.{Tally}
+use Rattle.tally.specs.declared.Tally.{Tally}
 use Rattle.word.specs.Answers.{entry-of, entries-of}
 use Rattle.records.specs.Answers.{gathered}
-use Rattle.table.specs.Tables.{tally-of}
+use Rattle.tally.specs.Tallies.{tally-of}
 use Rattle.records.specs.Records.{judged-count, numbers-of, finished}
 use Rattle.records.proofs.Gathers.{count-within, gathered-all}
 use Rattle.records.proofs.Gathered as R
@@ -56,8 +56,8 @@ use Rattle.records.proofs.Gathered.Laws as R′
 use Rattle.word.proofs.answers.Instruction as T
 use Rattle.records.proofs.Numbers as N
 use Rattle.records.proofs.Numbers.Laws as N′
-use Rattle.table.proofs.tally.Tally as K
-use Rattle.table.proofs.tally.Tally.Laws as K′
+use Rattle.tally.proofs.Tally as K
+use Rattle.tally.proofs.Tally.Laws as K′
 use Rattle.records.proofs.count_table as count-table
 use Rattle.records.proofs.count_table.Symbol as count-table-def
 use Rattle.records.proofs.count_table.Symbol.{name as #count-table}

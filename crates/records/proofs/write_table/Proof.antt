@@ -66,23 +66,23 @@ use Rattle.instruction.specs.Instructions.{text}
 use Rattle.word.specs.declared.answers.Instruction.{Instruction}
 use Rattle.word.specs.declared.answers.Written.{Written}
 use Rattle.word.specs.Answers.{entries-of, WritesInto}
-use Rattle.table.specs.declared.tally.Tally.{Tally}
-use Rattle.table.specs.Tables.{tally-of, answered}
+use Rattle.tally.specs.declared.Tally.{Tally}
+use Rattle.tally.specs.Tallies.{tally-of, answered}
 use Rattle.records.specs.Records.{written-count}
 use Rattle.records.proofs.Writes.{count-within, writes-table}
 use Rattle.word.proofs.answers.Instruction as T
 use Rattle.word.proofs.answers.Written as E
 use Rattle.word.proofs.answers.Written.Laws as E′
-use Rattle.table.proofs.tally.Tally as K
-use Rattle.table.proofs.tally.Tally.Laws as K′
+use Rattle.tally.proofs.Tally as K
+use Rattle.tally.proofs.Tally.Laws as K′
 use Rattle.records.proofs.count_table as count-table
 use Rattle.records.proofs.count_table.Symbol as count-table-def
 use Rattle.records.proofs.count_table.Symbol.{name as #count-table}
 use Rattle.records.proofs.count_table.Met as count-table-thm
-use Rattle.table.proofs.answer_for as answer-for
-use Rattle.table.proofs.answer_for.Symbol as answer-for-def
-use Rattle.table.proofs.answer_for.Symbol.{name as #answer-for}
-use Rattle.table.proofs.answer_for.Met as answer-for-thm
+use Rattle.tally.proofs.answer_for as answer-for
+use Rattle.tally.proofs.answer_for.Symbol as answer-for-def
+use Rattle.tally.proofs.answer_for.Symbol.{name as #answer-for}
+use Rattle.tally.proofs.answer_for.Met as answer-for-thm
 use Rattle.records.proofs.count_written as count-written
 use Rattle.records.proofs.count_written.Symbol as count-written-def
 use Rattle.records.proofs.count_written.Symbol.{name as #count-written}
@@ -355,7 +355,7 @@ write-table-spec 𝓤 H 𝓜 𝓖 𝓡 =
     (cited 𝓤 H (CountTable 𝓤 H (𝓖 .A) (𝓜 .mem) (𝓡 .run)) 𝓜 𝓡 code.env #count-table count-table-def.routine
     code.calls-records·count-table (count-table-thm.met 𝓤 H 𝓜 𝓖 𝓡))
     (cited 𝓤 H (AnswerFor 𝓤 H (𝓖 .A) (𝓜 .mem) (𝓡 .run)) 𝓜 𝓡 code.env #answer-for answer-for-def.routine
-    code.calls-table·answer-for (answer-for-thm.met 𝓤 H 𝓜 𝓖 𝓡))
+    code.calls-tally·answer-for (answer-for-thm.met 𝓤 H 𝓜 𝓖 𝓡))
     (cited 𝓤 H (CountWritten 𝓤 H (𝓖 .A) (𝓜 .mem) (𝓡 .run)) 𝓜 𝓡 code.env #count-written count-written-def.routine
     code.calls-records·count-written (count-written-thm.met 𝓤 H 𝓜 𝓖 𝓡))
     (cited 𝓤 H (Spell 𝓤 H (𝓖 .A) (𝓜 .mem) (𝓡 .run)) 𝓜 𝓡 code.env #spell spell-def.routine code.calls-records·spell (spell-thm.met 𝓤 H

@@ -1,8 +1,8 @@
 -- `check` meets its contract: what plainly passes is let pass, and else the table's tally is judged.
 use mathlib.Core.Path.{ap, _∙_}
 use Rattle.word.specs.Answers.{zipped}
-use Rattle.table.specs.Tables.{judged}
-use Rattle.table.proofs.Counts.{judged-tally}
+use Rattle.tally.specs.Tallies.{judged}
+use Rattle.tally.proofs.Counts.{judged-tally}
 use borrow.Author.Needs.{needs}
 use Rattle.table.proofs.checking.check.Statement.{statement}
 use Rattle.table.proofs.checking.check.Tie as tie

@@ -4,7 +4,7 @@ use native.Mathlib.Omega.{arith}
 use lib.ListN.{length}
 use Rattle.word.specs.Answers.{zipped}
 use Rattle.word.proofs.Zipped.{zipped-length}
-use Rattle.table.proofs.Counts.{accepted}
+use Rattle.tally.proofs.Counts.{accepted}
 use Rattle.table.proofs.Passing.{numbers-good}
 use Rattle.table.proofs.Flags.{never}
 use borrow.Author.Tests.{leb-true, not-false}

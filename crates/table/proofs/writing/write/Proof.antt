@@ -1,6 +1,6 @@
 -- `write` meets its contract: what the tally answers, and then what `spell` writes.
 use borrow.Author.Needs.{needs}
-use Rattle.table.proofs.Spelling.{wrote, left}
+use Rattle.tally.proofs.Spelling.{wrote, left}
 use Rattle.table.proofs.writing.write.Statement.{statement}
 use Rattle.table.proofs.writing.write.Tie as tie
 
