@@ -4,8 +4,8 @@ ghost use mathlib.Core.List.{[], _∷_};
 ghost use mathlib.Core.Path.{_≡_};
 ghost use Rattle.output.specs.Puts.{starting};
 ghost use Rattle.instruction.specs.Instructions.{text, Spelt};
+use byte_runs::write_runs;
 use output::onward;
-use output::write_runs;
 use theory::Refusal;
 
 // The size of a word: its symbols and its instructions.

@@ -8,8 +8,7 @@ use native.Mathlib.Numerals.{add-one}
 use native.Mathlib.Omega.{arith}
 use lib.Dec.{ltb}
 use borrow.Author.Tests.{ltb-true, ltb-false}
-use lib.ListN.{length, getD, take, drop, set, replicate, length-append, length-take, length-drop, length-replicate}
-use lib.ListN.{replicate-append-replicate, take-append-drop, drop-of-length-le}
+use lib.ListN.{length, getD, take, drop, set, length-append, length-take, length-drop, take-append-drop, drop-of-length-le}
 use lib.Seq.{sets, sets-eq, length-sets, set-out, take-suc, length-take-le, take-length, take-all, take-set-le, drop-set-add}
 use borrow.Rule.Slice.PartMut.{putMid}
 use Rattle.theory.specs.Text.{Bytes}
@@ -53,7 +52,7 @@ put-then {u} {v} {l} {m} {n} {i} {j} {k} p q =
     }
 
 -- What has a place, of what is put
-all-placed : (u v l : Bytes) (i : ℕ) → (0 < length v → length l ≤ i + length u) → sets l i u ≡ sets l i (u ++ v)
+pub all-placed : (u v l : Bytes) (i : ℕ) → (0 < length v → length l ≤ i + length u) → sets l i u ≡ sets l i (u ++ v)
 all-placed u [] l i h = rw append-nil
 all-placed u (b ∷ v) l i h =
     sym (sets-append u (b ∷ v) l i ∙ sets-out (b ∷ v) (sets l i u) (i + length u) (omega (arith, h (omega arith), length-sets l i u)))
@@ -65,18 +64,6 @@ module _ {l m : Bytes} {i k j : ℕ} where
       let whole : sets l i (take k w) ≡ sets l i (take k w ++ drop k w) =
       all-placed (take k w) (drop k w) l i (λ some. omega (arith, length-take k w, length-drop k w)) in
       record { next = g; wrote = f ∙ whole ∙ rw take-append-drop; sized = h }
-
-  run-placed : (n b : ℕ) → m ≡ sets l i (replicate k b) → k ≡ min n (length l - i) → length l ≤ most → j ≡ place (i + n)
-      → Put (replicate n b) i l m j
-  run-placed n b f e h g =
-      let all : k + (n - k) ≡ n = omega arith in
-      let whole : sets l i (replicate k b) ≡ sets l i (replicate k b ++ replicate (n - k) b) =
-      all-placed (replicate k b) (replicate (n - k) b) l i (λ some. omega (arith, length-replicate k b, length-replicate (n - k) b)) in
-      record {
-        next = rw (length-replicate n b) g;
-        wrote = f ∙ whole ∙ rw (replicate-append-replicate k (n - k) b, all);
-        sized = h;
-      }
 
 -- One byte more
 pub sets-more : (l m w : Bytes) (at i : ℕ) → i < length w → m ≡ sets l at (take i w)
@@ -121,29 +108,3 @@ module _ {u l : Bytes} {i j : ℕ} (h : length l ≤ most) (e : j ≡ place (i +
   -- At a place past the end nothing is written
   pub put-past : length l ≤ i → Put u i l l j
   put-past past = record { next = e; wrote = sym (sets-out u l i past); sized = h }
-
--- Two runs, as much of each as has a place
-module _ (l : Bytes) {m n : Bytes} (h : length l ≤ most) (count b more o : ℕ) where
-  pub runs-starting : (k j : ℕ) → m ≡ sets l 0 (replicate k b) → n ≡ sets m k (replicate j o) → k ≡ min count (length l)
-      → j ≡ min more (length l - k) → n ≡ starting (replicate count b ++ replicate more o) l
-  runs-starting k j e f first second = go (ltb (length l) count) refl
-    where
-      one : Put (replicate count b) 0 l m (place (0 + count))
-      one = run-placed {k = k} count b e (omega arith) h refl
-
-      both : n ≡ sets m (place (0 + count)) (replicate j o) → n ≡ starting (replicate count b ++ replicate more o) l
-      both g =
-          let size : length m ≡ length l = put-length one in
-          let two : Put (replicate more o) (place (0 + count)) m n (place (place (0 + count) + more))
-          = run-placed {k = j} more o g (omega arith) (omega arith) refl in
-          put-then one two .wrote ∙ sets-starting (replicate count b ++ replicate more o) l
-
-      go : (t : Bool) → ltb (length l) count ≡ t → n ≡ starting (replicate count b ++ replicate more o) l
-      go true t =
-          let past : length l < count = ltb-true (length l) count t in
-          let none : j ≡ 0 = omega arith in
-          both (f ∙ rw none)
-      go false t =
-          let inside : count ≤ length l = ltb-false (length l) count t in
-          let here : k ≡ place (0 + count) = omega arith in
-          both (rw here at f)

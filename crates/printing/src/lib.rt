@@ -1,8 +1,8 @@
 // The parts of the report, each put into an output from a place on. A byte that has no place in the output is counted and not written,
 // so that an output without a byte serves to measure.
+use decimals::put_number;
 use output::put_byte;
 use output::put_bytes;
-use output::put_number;
 use theory::End;
 use theory::Refusal;
 ghost use Rattle.theory.specs.RunTool.{end-name, header};

@@ -6,9 +6,9 @@ ghost use Rattle.theory.specs.Machines.{ones, laid};
 ghost use Rattle.rule10.specs.Lent.{memory, Sized};
 ghost use Rattle.registers.specs.Held.{Held};
 ghost use Rattle.registers.specs.Fresh.{fresh-registers, values-within, can-hold};
+use byte_runs::write_runs;
 use layout::capacity_at;
 use layout::offsets;
-use output::write_runs;
 use rule10::is_sized;
 
 fn wide(x: u32) -> usize

@@ -1,9 +1,9 @@
 -- `write_runs` meets its contract: where all of both runs has a place, they are filled.
 use native.Mathlib.Omega.{arith}
 use borrow.Author.Needs.{needs}
-use Rattle.output.proofs.Puts.{runs-starting}
-use Rattle.output.proofs.write_runs.Statement.{statement}
-use Rattle.output.proofs.write_runs.Tie as tie
+use Rattle.byte_runs.proofs.TwoRuns.{runs-starting}
+use Rattle.byte_runs.proofs.write_runs.Statement.{statement}
+use Rattle.byte_runs.proofs.write_runs.Tie as tie
 
 fill-requires : tie.Need-fill-requires
 fill-requires c κs = search needs

@@ -1,9 +1,9 @@
 -- `cut_runs` meets its contract: of each run what has a place is filled.
 use native.Mathlib.Omega.{arith}
 use borrow.Author.Needs.{needs}
-use Rattle.output.proofs.Puts.{runs-starting}
-use Rattle.output.proofs.cut_runs.Statement.{statement}
-use Rattle.output.proofs.cut_runs.Tie as tie
+use Rattle.byte_runs.proofs.TwoRuns.{runs-starting}
+use Rattle.byte_runs.proofs.cut_runs.Statement.{statement}
+use Rattle.byte_runs.proofs.cut_runs.Tie as tie
 
 least-requires : tie.Need-least-requires
 least-requires c κs = search needs

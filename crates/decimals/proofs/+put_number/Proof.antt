@@ -8,14 +8,14 @@ use borrow.Fn.Kinds.{In}
 use borrow.Fn.PlainCycle.{Measures, is, falls, and}
 use Rattle.theory.specs.Text.{Bytes, decimal}
 use Rattle.theory.proofs.Numerals.{decimal-small, decimal-large}
 use Rattle.output.specs.Puts.{Put}
 use Rattle.output.proofs.Puts.{put-then, put-length}
-use Rattle.output.proofs.put_number.Reads as put-number
-use Rattle.output.proofs.put_number.Kinds as put-number-kinds
-use Rattle.output.proofs.+put_number.Lts-put_number as put-number-lts
-use Rattle.output.proofs.put_digit.Reads as put-digit-reads
-use Rattle.output.proofs.+put_number.{statement}
-use Rattle.output.proofs.+put_number.Tie.{close}
+use Rattle.decimals.proofs.put_number.Reads as put-number
+use Rattle.decimals.proofs.put_number.Kinds as put-number-kinds
+use Rattle.decimals.proofs.+put_number.Lts-put_number as put-number-lts
+use Rattle.decimals.proofs.put_digit.Reads as put-digit-reads
+use Rattle.decimals.proofs.+put_number.{statement}
+use Rattle.decimals.proofs.+put_number.Tie.{close}
 
 -- Two digits
 two-digits : {l m o : Bytes} {i j k : ℕ} (n : ℕ) → 10 ≤ n → n < 100 → Put ((48 + n / 10 % 10) ∷ []) i l m j

@@ -6,8 +6,8 @@ use lib.ListN.{length, replicate, length-set}
 use lib.Seq.{sets}
 use Rattle.theory.specs.Text.{Bytes}
 use Rattle.theory.proofs.Writes.{run-more}
-use Rattle.output.proofs.fill.Statement.{statement}
-use Rattle.output.proofs.fill.Tie as tie
+use Rattle.byte_runs.proofs.fill.Statement.{statement}
+use Rattle.byte_runs.proofs.fill.Tie as tie
 
 to-the-end : {i n : ℕ} {m : Bytes} (l : Bytes) (at b : ℕ) → m ≡ sets l at (replicate i b) → i ≤ n → n ≤ i
     → m ≡ sets l at (replicate n b)
