@@ -27,7 +27,7 @@ build() {
     tell() {
         [ -z "$told" ] || return 0
         told=yes
-        say "$tool is proved and built first: $total crates, about $(((total + 2) / 3)) minutes on two cores."
+        say "$tool is proved and built first: $total crates, about $(((total + 9) / 10)) minutes on two cores."
         say "This is once; after it the answer comes at once."
     }
     while true; do
