@@ -1,4 +1,4 @@
--- What the crate's own functions promise each other: registers laid out in a lent store.
+-- Registers laid out in a lent store: what the functions inside this crate promise each other, and what `rings` starts from.
 use mathlib.Core.Path.{_≡_}
 use mathlib.Core.List.{List}
 use Prim.Native.Nat.{ℕ, suc, _≤_, _<_}

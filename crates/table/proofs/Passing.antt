@@ -2,24 +2,19 @@
 use mathlib.Core.Path.{_≡_}
 use mathlib.Core.Bool.{true}
 use mathlib.Core.List.{List, [], _∷_}
-use Prim.Native.Nat.{ℕ, zero, suc, _+_, _*_, _≤_, _<_}
+use Prim.Native.Nat.{ℕ, suc, _+_, _*_, _≤_, _<_}
 use native.Mathlib.Omega.{arith}
 use borrow.Author.Tests.{le-leb, leb-true, ne-eqb}
 use lib.Dec.{leb}
-use lib.ListN.{length, take, getD}
+use lib.ListN.{length, getD}
+use Rattle.theory.specs.Basics.{sum}
 use Rattle.theory.specs.Machines.{is-limited}
 use Rattle.theory.proofs.Faults.{and-first, and-second}
 use Rattle.theory.proofs.Words.{entry}
 use Rattle.word.specs.Answers.{zipped}
 use Rattle.tally.specs.Tallies.{is-good}
-use Rattle.table.specs.Tables.{IsKind, sum, AllGood}
+use Rattle.table.specs.Tables.{IsKind, AllGood}
 use Rattle.text.proofs.Runs.{leading-pass, leading-nil}
-
--- One number more
-pub sum-more : (l : List ℕ) (i : ℕ) → i < length l → sum (take (suc i) l) ≡ sum (take i l) + getD l i 0
-sum-more [] i h = absurd (omega arith)
-sum-more (n ∷ l) zero h = omega arith
-sum-more (n ∷ l) (suc i) h = omega (arith, sum-more l i (omega arith))
 
 pub kind-limits : (k : ℕ) → is-limited 5 k ≡ true → IsKind k
 kind-limits k h = record { first = leb-true 1 k (and-first _ _ h); last = leb-true k 5 (and-second (leb 1 k) _ h) }

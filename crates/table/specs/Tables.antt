@@ -1,8 +1,9 @@
 -- What the functions inside this crate see of a table's numbers, one list at a time.
 use mathlib.Core.Path.{_≡_}
-use mathlib.Core.List.{List, [], _∷_}
-use Prim.Native.Nat.{ℕ, _+_, _≤_, _<_}
+use mathlib.Core.List.{List}
+use Prim.Native.Nat.{ℕ, _≤_, _<_}
 use lib.ListN.{length, getD}
+use Rattle.theory.specs.Basics.{sum}
 use Rattle.theory.specs.Word.{Entry}
 use Rattle.theory.specs.TurnedDown.{total}
 use Rattle.text.specs.Runs.{leading}
@@ -12,10 +13,6 @@ use Rattle.tally.specs.Tallies.{is-good}
 pub record IsKind (kind : ℕ) : Type 0 where
   pub first : 1 ≤ kind
   pub last : kind ≤ 5
-
-abbrev pub sum : List ℕ → ℕ
-sum [] = 0
-sum (n ∷ ns) = n + sum ns
 
 -- A table whose entries are all good, of so many symbols at most
 pub record AllGood (most : ℕ) (t : List Entry) : Type 0 where

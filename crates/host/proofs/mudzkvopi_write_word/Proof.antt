@@ -1,4 +1,4 @@
--- `mudzkvopi_write_word` meets its contract, since `word::write` meets its own.
+-- `mudzkvopi_write_word` meets its contract, since `table::write` meets its own.
 use borrow.Author.Needs.{needs}
 use mathlib.Core.Path.{ap, _∙_}
 use Rattle.machine_packing.specs.Answered.{word-written}

@@ -8,9 +8,9 @@ use native.Mathlib.Omega.{arith}
 use borrow.Author.Needs.{needs}
 use lib.ListN.{length, take, getD}
 use lib.Seq.{take-all}
-use Rattle.table.specs.Tables.{sum}
+use Rattle.theory.specs.Basics.{sum}
+use Rattle.theory.proofs.Offsets.{offset-next}
 use Rattle.table.proofs.Flags.{never, each-more}
-use Rattle.table.proofs.Passing.{sum-more}
 use Rattle.table.proofs.checking.sum_of.Statement.{statement}
 use Rattle.table.proofs.checking.sum_of.Tie as tie
 
@@ -46,10 +46,9 @@ loop-less c = search needs
 loop-again : tie.Need-loop-again Inv-loop μ-loop
 loop-again c =
     let l = c .before .before .before .loop in
-    let operands = c .before .before .before .before .args .operands .now in
-    let h : l .i < length operands = search needs in (
+    let operands = c .before .before .before .before .args .operands .now in (
       search needs,
-      rw (add-one, sum-more operands (l .i) h) (ap (λ (k : ℕ). k + getD operands (l .i) 0) (l .inv .1)),
+      rw (add-one, offset-next operands (l .i)) (ap (λ (k : ℕ). k + getD operands (l .i) 0) (l .inv .1)),
       omega (arith, l .inv .2, c .before .shared-slice-known .given (l .i)),
       λ q. ⊎-elim (λ w. never (sym (w .1) ∙ q))
           (λ w. each-more (λ j. 1 ≤ getD operands j 0) (l .i) (l .inv .3 (sym (w .1) ∙ q)) (omega (arith, w .0 .left))) (c .if1 .came),
