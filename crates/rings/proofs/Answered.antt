@@ -1,27 +1,16 @@
--- What the search for an entry that the machine cannot do says: of the table, and of the answer.
-use mathlib.Core.Path.{_≡_, refl}
+-- What the search for an entry that the machine cannot do says of the answer.
+use mathlib.Core.Path.{_≡_}
 use mathlib.Core.Bool.{true, false}
-use mathlib.Core.Option.{Option, none, some}
+use mathlib.Core.Option.{none, some}
 use mathlib.Core.List.{List}
 use Prim.Native.Nat.{ℕ}
-use native.Mathlib.Omega.{arith}
 use Rattle.theory.specs.Word.{Entry}
 use Rattle.theory.specs.Machines.{Memory, count, is-memory}
 use Rattle.theory.specs.TurnedDown.{done, rule-10}
 use Rattle.memory.specs.declared.answers.Position.{Position}
 use Rattle.memory.specs.Calls.{called, turned-down}
-use Rattle.usable.specs.declared.Unusable.the-variants.{At, Nothing}
-use Rattle.usable.specs.Usable.{first-unusable, unusable-answer}
+use Rattle.usable.specs.Usable.{first-unusable}
 use Rattle.rings.specs.Calls.{usable-table, usable-called}
-
--- What the search answers, as an option again
-pub found : (o : Option ℕ) (i : ℕ) → At i ≡ unusable-answer o → o ≡ some i
-found none i e = let z : _≡_ {A = ℕ} 0 1 = cc in absurd (omega arith)
-found (some j) i e = cc
-
-pub found-none : (o : Option ℕ) → Nothing ≡ unusable-answer o → o ≡ none
-found-none none e = refl
-found-none (some j) e = let z : _≡_ {A = ℕ} 0 1 = cc in absurd (omega arith)
 
 module _ (m : Memory) (p : Position) (budget : ℕ) (t : List Entry) where
   pub no-memory : is-memory m ≡ false → usable-called m p budget t ≡ turned-down m p (record { number = 10; place = 0 })

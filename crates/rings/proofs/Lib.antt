@@ -2,11 +2,7 @@ pub mod Registers
 pub mod OneRegister
 pub mod Rings
 pub mod Ordered
-pub mod Signs
 pub mod Steps
-pub mod Instructions
-pub mod Outside
 pub mod Running
 pub mod Whole
 pub mod Answered
-pub mod AllUsable

@@ -1,34 +1,18 @@
--- One instruction as the definition has it: places as numbers, and what each kind does.
+-- One instruction as the definition has it: what each kind does.
 use mathlib.Core.Path.{_≡_, refl, sym, ap, _∙_}
 use mathlib.Core.Bool.{Bool, true, false}
 use mathlib.Core.List.{List, [], _∷_, _++_}
 use Prim.Native.Nat.{ℕ, suc, _+_, _-_, _≤_}
 use native.Mathlib.Omega.{arith}
 use borrow.Author.Tests.{le-leb, lt-leb}
-use lib.IntN.{ℤ, pos, negsuc, _+ℤ_, _-ℤ_, +ℤ-assoc, +ℤ-comm, +ℤ-negℤ-cancel}
 use lib.ListN.{length, getD}
 use Rattle.theory.specs.Basics.{put}
 use Rattle.theory.specs.Word as W
 use Rattle.theory.specs.Word.{Symbol, one, hash, byte-of, Instruction, append, forward, backward, cases}
 use Rattle.rings.specs.declared.effect.Step.the-variants.{To}
 use Rattle.rings.specs.Ring.{Ring, Appended, Deleted}
-use Rattle.rings.specs.Steps.{Performed, placed, symbol-of, next-if, by-byte}
-
--- Places
-
-pub place-forward : (a n : ℕ) → placed a +ℤ pos n ≡ placed (a + n)
-unfolding placed
-place-forward a n =
-    +ℤ-assoc (pos a) (negsuc 999999) (pos n)
-    ∙ ap (λ (z : ℤ). pos a +ℤ z) (+ℤ-comm (negsuc 999999) (pos n))
-    ∙ sym (+ℤ-assoc (pos a) (pos n) (negsuc 999999))
-
-pub place-backward : (a n : ℕ) → n ≤ a → placed a -ℤ pos n ≡ placed (a - n)
-place-backward a n h =
-    let e : a ≡ a - n + n = omega arith in
-    ap (λ (z : ℤ). z -ℤ pos n) (ap placed e ∙ sym (place-forward (a - n) n)) ∙ +ℤ-negℤ-cancel (placed (a - n)) (pos n)
-
--- An instruction by its numbers
+use Rattle.rings.specs.Steps.{Performed, symbol-of, next-if, by-byte}
+use Rattle.underway.proofs.Effects.{place-forward, place-backward}
 
 -- what is none of the other kinds is an append, of the symbol that its kind gives
 pub is-append : (i : Instruction) {k r : ℕ} → (k ≡ 3 → ⊥) → (k ≡ 4 → ⊥) → (k ≡ 5 → ⊥) → W.kind i ≡ k → W.operand i ≡ suc r
@@ -38,27 +22,6 @@ is-append (append hash n) no-3 no-4 no-5 k e = (hash, ap {B = Instruction} (appe
 is-append (forward n) no-3 no-4 no-5 k e = absurd (no-3 (sym k))
 is-append (backward n) no-3 no-4 no-5 k e = absurd (no-4 (sym k))
 is-append (cases n) no-3 no-4 no-5 k e = absurd (no-5 (sym k))
-
-pub is-forward : (i : Instruction) {n : ℕ} → W.kind i ≡ 3 → W.operand i ≡ n → i ≡ forward n
-is-forward (append one n) k e = absurd (omega arith)
-is-forward (append hash n) k e = absurd (omega arith)
-is-forward (forward n) k e = ap {B = Instruction} forward e
-is-forward (backward n) k e = absurd (omega arith)
-is-forward (cases n) k e = absurd (omega arith)
-
-pub is-backward : (i : Instruction) {n : ℕ} → W.kind i ≡ 4 → W.operand i ≡ n → i ≡ backward n
-is-backward (append one n) k e = absurd (omega arith)
-is-backward (append hash n) k e = absurd (omega arith)
-is-backward (forward n) k e = absurd (omega arith)
-is-backward (backward n) k e = ap {B = Instruction} backward e
-is-backward (cases n) k e = absurd (omega arith)
-
-pub is-cases : (i : Instruction) {r : ℕ} → W.kind i ≡ 5 → W.operand i ≡ suc r → i ≡ cases (suc r)
-is-cases (append one n) k e = absurd (omega arith)
-is-cases (append hash n) k e = absurd (omega arith)
-is-cases (forward n) k e = absurd (omega arith)
-is-cases (backward n) k e = absurd (omega arith)
-is-cases (cases n) k e = ap {B = Instruction} cases e
 
 -- What each does, at register r counted from 0
 

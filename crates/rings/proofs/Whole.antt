@@ -3,11 +3,9 @@ use mathlib.Core.Path.{_≡_, refl, ap, ap₂, _∙_}
 use mathlib.Core.Bool.{true}
 use mathlib.Core.Option.{some}
 use mathlib.Core.List.{List}
-use Prim.Native.Nat.{ℕ, zero, suc, _+_, _≤_, _<_}
+use Prim.Native.Nat.{ℕ, _+_, _≤_}
 use native.Mathlib.Nat.{add-zero}
 use native.Mathlib.Omega.{arith}
-use borrow.Author.Tests.{le-leb, lt-leb, ne-eqb}
-use lib.IntN.{ℤ, pos, negsuc}
 use lib.ListN.{length}
 use Rattle.theory.specs.Limits.{last-count}
 use Rattle.theory.specs.Runs.{Outcome, within-each}
@@ -20,28 +18,17 @@ use Rattle.theory.proofs.Budgets.{run-ended, count-within}
 use Rattle.theory.proofs.GoodMemory.{memory-is-good, contents-stored, contents-counted}
 use Rattle.memory.specs.declared.answers.Position.{Position}
 use Rattle.memory.specs.declared.answers.Run.{Run}
-use Rattle.rings.specs.declared.runs.Stop.{Stop}
 use Rattle.memory.specs.declared.answers.Ended.the-variants.{Ran}
+use Rattle.memory.specs.Calls.{Called, memory, position, handed, ran, stands-outside}
 use Rattle.word.specs.Answers.{zipped}
 use Rattle.registers.specs.Held.{Held}
-use Rattle.rings.specs.Steps.{Usables, bias, number-of, placed}
-use Rattle.rings.specs.Inside.{Stopped, run-from, ran-to}
-use Rattle.memory.specs.Calls.{Called, memory, position, handed, ran, stands-outside}
-use Rattle.rings.proofs.Instructions.{instructions-length}
-use Rattle.rings.proofs.Outside.{placed-number}
-
-pub outside-low : (L : ℕ) (z : ℤ) → number-of z < 1 → ended-at L z ≡ some Strayed
-outside-low L (pos zero) h = rw (ne-eqb 0 (suc L) (λ e. omega arith))
-outside-low L (pos (suc n)) h = absurd (omega arith)
-outside-low L (negsuc n) h = refl
-
-pub outside-high : (L : ℕ) (z : ℤ) → L + 1 < number-of z → ended-at L z ≡ some Strayed
-outside-high L (pos n) h = rw (ne-eqb n (suc L) (λ e. omega arith), le-leb 1 n (omega arith), lt-leb n L (omega arith))
-outside-high L (negsuc n) h = absurd (omega arith)
-
-pub place-inside : (z : ℤ) → 1 ≤ number-of z → placed (bias + number-of z) ≡ z
-place-inside (pos n) h = placed-number (bias + n) (omega arith) ∙ ap pos (omega arith)
-place-inside (negsuc n) h = absurd (omega arith)
+use Rattle.underway.specs.declared.Stop.{Stop}
+use Rattle.underway.specs.Places.{bias, placed}
+use Rattle.underway.specs.Ends.{ran-to}
+use Rattle.underway.specs.Inside.{Usables, Stopped}
+use Rattle.underway.proofs.Instructions.{instructions-length}
+use Rattle.underway.proofs.Entered.{ran-is}
+use Rattle.rings.specs.Steps.{run-from}
 
 module _ (capacities store lengths : List ℕ) (good : is-memory (memory capacities store lengths) ≡ true) where
   module _ (kinds operands : List ℕ) (u : Usables (length capacities) kinds operands) (p : Position) (budget : ℕ) where
@@ -60,22 +47,22 @@ module _ (capacities store lengths : List ℕ) (good : is-memory (memory capacit
         Strayed (ap (λ (L : ℕ). ended-at L (p .place)) size ∙ h) in
         rw (e, contents-stored (memory capacities store lengths) g, contents-counted (memory capacities store lengths) g, add-zero)
 
-    pub whole-is : 1 ≤ number-of (p .place) → run-from kinds operands (memory capacities store lengths)
-        (bias + number-of (p .place)) (p .steps) budget ≡ o
+    pub whole-is : (n : ℕ) → placed (bias + n) ≡ p .place
+        → run-from kinds operands (memory capacities store lengths) (bias + n) (p .steps) budget ≡ o
     unfolding run-word
-    whole-is h = rw (place-inside (p .place) h)
+    whole-is n h = rw h
 
-    pub whole-count : p .steps ≤ last-count → p .steps + o .steps ≤ last-count
+    whole-count : p .steps ≤ last-count → p .steps + o .steps ≤ last-count
     unfolding run-word
     whole-count l = count-within (W.machine (within-each (capacity-of capacities)) (instructions (zipped kinds operands))) budget (p .steps)
         (record { place = p .place; registers = contents (memory capacities store lengths) }) l
 
     pub whole-stopped : (s : Stop) (store′ lengths′ : List ℕ) → Stopped (λ f. Held capacities f store′ lengths′) o s
-        → handed (ran-to (p .steps) s) store′ lengths′ ≡ ran (memory capacities store lengths) p o
-    whole-stopped s store′ lengths′ h =
+        → p .steps ≤ last-count → handed (ran-to (p .steps) s) store′ lengths′ ≡ ran (memory capacities store lengths) p o
+    whole-stopped s store′ lengths′ h l =
         let r : Run = record {
           position = record { place = o .state .place; steps = p .steps + o .steps };
-          ended = Ran (o .end)
-              (o .steps);
+          ended = Ran (o .end) (o .steps);
         } in
-        rw (← h .place, ← h .end, ← h .steps) (ap₂ {C = Called} (λ a b. handed r a b) (h .held .stored) (h .held .counted))
+        rw (ran-is (λ f. Held capacities f store′ lengths′) o (p .steps) s h (whole-count l))
+        (ap₂ {C = Called} (λ a b. handed r a b) (h .held .stored) (h .held .counted))

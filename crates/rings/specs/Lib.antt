@@ -1,4 +1,3 @@
 pub mod Ring
 pub mod Steps
-pub mod Inside
 pub mod Calls

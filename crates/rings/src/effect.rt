@@ -2,59 +2,21 @@
 ghost use mathlib.Core.Path.{_≡_};
 ghost use mathlib.Core.List.{List};
 ghost use Prim.Native.Nat.{ℕ, _≤_, _<_, _-_, _^_};
-ghost use lib.IntN.{pos, negℤ};
 ghost use lib.ListN.{length};
 ghost use Rattle.theory.specs.Word.{Symbol};
 ghost use Rattle.rule10.specs.Lent.{Sized};
 ghost use Rattle.rings.specs.Ring.{Offsets, Ring, Ringed};
-ghost use Rattle.rings.specs.Steps.{Usable, Performed, placed, number-of, symbol-of, next-if, by-byte};
+ghost use Rattle.underway.specs.Inside.{Usable};
+ghost use Rattle.rings.specs.Steps.{Performed, symbol-of, next-if, by-byte};
 ghost use Rattle.theory.specs.Word as W;
 use crate::store::append;
 use crate::store::delete_first;
 use word::Instruction;
 
-// Inside a run a place is kept as a number so much higher, so that it never falls below 0.
-pub const BIAS: usize = 1000000;
-
 // What one instruction does: it goes to a place, or is full.
 pub enum Step {
     To(usize),
     Full,
-}
-
-// The number of a place that is not negative, else 0.
-pub fn number(place: i32) -> usize
-    ensures { λ r. ⌜ r ≡ number-of place ⌝ }
-{
-    if place < 0 { 0 } else { place as usize }
-}
-
-// A place that is a number.
-fn ahead(n: usize) -> i32
-    requires { ⌜ n < 2 ^ 31 ⌝ }
-    ensures { λ r. ⌜ r ≡ pos n ⌝ }
-{
-    n as i32
-}
-
-// A place that is so much below 0.
-fn below(n: usize) -> i32
-    requires { ⌜ n < 2 ^ 31 ⌝ }
-    ensures { λ r. ⌜ r ≡ negℤ (pos n) ⌝ }
-{
-    -(n as i32)
-}
-
-// The place that a run keeps as a number.
-pub fn place_of(here: usize) -> i32
-    requires { ⌜ here < 2 ^ 31 ⌝ }
-    ensures { λ r. ⌜ r ≡ placed here ⌝ }
-{
-    if BIAS <= here {
-        ahead(here - BIAS)
-    } else {
-        below(BIAS - here)
-    }
 }
 
 // The byte of the symbol that an append of this kind appends.

@@ -10,8 +10,8 @@ use Rattle.word.specs.Answers.{zipped}
 use Rattle.memory.specs.Calls.{memory}
 use Rattle.usable.specs.Usable.{first-unusable}
 use Rattle.rings.proofs.Running.{memory-sized}
-use Rattle.rings.proofs.AllUsable.{all-usable}
-use Rattle.rings.proofs.Answered.{found, found-none, no-memory, refused-15, all-done}
+use Rattle.underway.proofs.AllUsable.{found, found-none, all-usable}
+use Rattle.rings.proofs.Answered.{no-memory, refused-15, all-done}
 use borrow.Author.Needs.{needs}
 use Rattle.rings.proofs.run.Statement.{statement}
 use Rattle.rings.proofs.run.Tie as tie

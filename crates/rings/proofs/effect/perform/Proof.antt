@@ -5,7 +5,8 @@ use Prim.Native.Nat.{suc, _-_}
 use native.Mathlib.Omega.{arith}
 use borrow.Author.Tests.{lt-ltb}
 use Rattle.theory.specs.TurnedDown.{names-register}
-use Rattle.rings.proofs.Steps.{is-append, is-forward, is-backward, is-cases}
+use Rattle.underway.proofs.Effects.{is-forward, is-backward, is-cases}
+use Rattle.rings.proofs.Steps.{is-append}
 use Rattle.rings.proofs.Steps.{did-append, did-forward, did-backward, did-cases}
 use borrow.Author.Needs.{needs}
 use Rattle.rings.proofs.effect.perform.Statement.{statement}

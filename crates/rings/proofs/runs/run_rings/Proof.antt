@@ -6,7 +6,8 @@ use lib.ListN.{length}
 use Rattle.rings.specs.declared.effect.Step.{Step}
 use Rattle.rings.specs.Steps.{Performed}
 use Rattle.rings.proofs.Rings.{ring-sized}
-use Rattle.rings.proofs.Running.{Running, memory-sized, running-start, running-over, running-full, running-step, at-instruction}
+use Rattle.underway.proofs.Running.{at-instruction}
+use Rattle.rings.proofs.Running.{Running, memory-sized, running-start, running-over, running-full, running-step}
 use borrow.Author.Needs.{needs}
 use Rattle.rings.proofs.runs.run_rings.Statement.{statement}
 use Rattle.rings.proofs.runs.run_rings.Tie as tie
@@ -103,9 +104,6 @@ enum-known-there c = search needs
 enum-told : tie.Need-enum-told Inv-loop μ-loop
 enum-told c = search needs
 
-stopped-requires : tie.Need-stopped-requires Inv-loop μ-loop
-stopped-requires c κs = search needs
-
 same-length : tie.Need-same-length Inv-loop μ-loop
 same-length c = search needs
 
@@ -117,26 +115,19 @@ same-length-3 c = search needs
 
 returns : tie.Need-returns Inv-loop μ-loop
 returns c =
-    let a = c .before .before .before .before .before .before .before .before .before .before .before .before .before .before .before
-    .before .before .before .before .before .before .before .before .before .before .before .args in
-    let l = c .before .before .before .before .before .before .before .before .before .before .before .before .before .before .before
-    .before .before .loop in
+    let e = c .before .before .before .before .before .before .before .before .before .before .before .before .before .before .before .before .before .before .before .before .before .before .before .before .before in
+    let a = e .args in
+    let l = c .before .before .before .before .before .before .before .before .before .before .before .before .before .before .before .before .loop in
     let r = l .inv .0 in
-    let q = c .before .before .before .before .before .before .before .before .before .perform in
-    let g = going (c .before .before .before .before .before .before .before .before .before .before .before .before .before .before
-    .before) in
-    rw (c .stopped .ensures)
-    (running-full (a .capacities .now) (a .store .now) (a .lengths .now) (a .kinds .now) (a .operands .now) (a .from) (a .steps) (a .budget)
-    (c .before .before .before .before .before .before .before .before .before .before .before .before .before .before .before .before
-    .before .before .allowance .result) r (c .before .before .before .before .before .before .before .before .before .before .before
-    .before .before .before .before .before .before .before .before .before .before .before .before .before .before .before .pre .2) (g
-    .0) (g .1) (c
-    .before .before .before .before .before .before .before .before .before .before .before .before .before .before .before .before
-    .before .before .allowance .ensures) (g .2)
+    let q = c .before .before .before .before .before .before .before .before .perform in
+    let w = c .before .before .before .before .before .before .before .before .before .before .before .before .before .before .before .before .before .allowance in
+    let g = going (c .before .before .before .before .before .before .before .before .before .before .before .before .before .before) in
+    running-full (a .capacities .now) (a .store .now) (a .lengths .now) (a .kinds .now) (a .operands .now) (a .from) (a .steps) (a .budget)
+    (w .result) r (e .pre .2) (w .ensures) (g .0) (g .1) (g .2)
     (λ i k o. subst
     (λ (x : Step). Performed (a .capacities .now) (r .registers) (l .here) i x (q .last .0) (q .last .1 .0) (q .last .1 .1 .0))
-    (c .before .enum-told .given .1)
-    (q .ensures (r .registers) i k o (r .held))))
+    (c .enum-told .given .1)
+    (q .ensures (r .registers) i k o (r .held)))
 
 add-k : tie.Need-add-k Inv-loop μ-loop
 add-k c = omega (
@@ -154,35 +145,25 @@ loop-less c = omega (
 
 loop-again : tie.Need-loop-again Inv-loop μ-loop
 loop-again c =
-    let a = c .before .before .before .before .before .before .before .before .before .before .before .before .before .before .before
-    .before .before .before .before .before .before .before .before .before .before .before .args in
-    let u = c .before .before .before .before .before .before .before .before .before .before .before .before .before .before .before
-    .before .before .before .before .before .before .before .before .before .before .before .pre .2 in
-    let l = c .before .before .before .before .before .before .before .before .before .before .before .before .before .before .before
-    .before .before .loop in
+    let e = c .before .before .before .before .before .before .before .before .before .before .before .before .before .before .before .before .before .before .before .before .before .before .before .before .before .before in
+    let a = e .args in
+    let l = c .before .before .before .before .before .before .before .before .before .before .before .before .before .before .before .before .before .loop in
     let r = l .inv .0 in
     let q = c .before .before .before .before .before .before .before .before .before .perform in
-    let g = going (c .before .before .before .before .before .before .before .before .before .before .before .before .before .before
-    .before) in (
-      running-step (a .capacities .now) (a .store .now) (a .lengths .now) (a .kinds .now) (a .operands .now) (a .from) (a .steps) (a
-          .budget)
-          (c .before .before .before .before .before .before .before .before .before .before .before .before .before .before .before
-          .before .before .before .allowance .result) r u (g .0) (g .1) (c .before .before .before .before .before .before .before
-          .before .before .before .before .before .before .before .before .before .before .before .allowance .ensures) (g .2) (c
-          .before .there .given .0 .0)
+    let w = c .before .before .before .before .before .before .before .before .before .before .before .before .before .before .before .before .before .before .allowance in
+    let g = going (c .before .before .before .before .before .before .before .before .before .before .before .before .before .before .before) in (
+      running-step (a .capacities .now) (a .store .now) (a .lengths .now) (a .kinds .now) (a .operands .now) (a .from) (a .steps)
+          (a .budget) (w .result) r (e .pre .2) (w .ensures) (g .0) (g .1) (g .2) (c .before .there .given .0 .0)
           (λ i k o. subst
           (λ (x : Step). Performed (a .capacities .now) (r .registers) (l .here) i x (q .last .0) (q .last .1 .0) (q .last .1 .1 .0))
           (c .before .there .given .1)
           (q .ensures (r .registers) i k o (r .held)))
-          (u .count) (q .kept .0) (q .kept .1 .0),
+          (q .kept .0) (q .kept .1 .0),
       q .kept .1 .1 .0 ∙ l .inv .1,
     )
 
 end-at-requires : tie.Need-end-at-requires Inv-loop μ-loop
 end-at-requires c κs = search needs
-
-stopped-requires-2 : tie.Need-stopped-requires-2 Inv-loop μ-loop
-stopped-requires-2 c κs = search needs
 
 same-length-4 : tie.Need-same-length-4 Inv-loop μ-loop
 same-length-4 c = search needs
@@ -195,13 +176,13 @@ same-length-6 c = search needs
 
 returns-2 : tie.Need-returns-2 Inv-loop μ-loop
 returns-2 c =
-    let a = c .before .before .before .before .before .before .before .before .before .before .before .before .before .args in
-    rw (c .stopped2 .ensures, c .before .end-at .ensures)
+    let e = c .before .before .before .before .before .before .before .before .before .before .before .before in
+    let a = e .args in
+    let w = c .before .before .before .before .allowance in
+    rw (c .end-at .ensures)
     (running-over (a .capacities .now) (a .store .now) (a .lengths .now) (a .kinds .now) (a .operands .now) (a .from) (a .steps) (a .budget)
-    (c .before .before .before .before .before .allowance .result) (c .before .before .before .before .loop .inv .0) (c .before .before
-    .before .before .before .before .before .before .before .before .before .before .before .pre .2) (c .before .before .before .before
-    .before
-    .allowance .ensures) (sym (c .before .before .before .goes-on .ensures) ∙ c .before .before .if1 .left))
+    (w .result) (c .before .before .before .loop .inv .0) (e .pre .2) (w .ensures)
+    (sym (c .before .before .goes-on .ensures) ∙ c .before .if1 .left))
 
 pub run-rings-spec : {M : Type 1} → statement M
 run-rings-spec =
@@ -222,7 +203,6 @@ run-rings-spec =
     perform-requires
     enum-known-there
     enum-told
-    stopped-requires
     same-length
     same-length-2
     same-length-3
@@ -231,7 +211,6 @@ run-rings-spec =
     loop-less
     loop-again
     end-at-requires
-    stopped-requires-2
     same-length-4
     same-length-5
     same-length-6
