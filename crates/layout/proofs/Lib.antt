@@ -1,2 +1,3 @@
 pub mod OffsetTable
 pub mod Lists
+pub mod Walks

@@ -48,14 +48,14 @@ pub fn offsets(capacities: &[u16]) -> [usize; OFFSETS]
     places
 }
 
-// Whether each byte of a part is 0. All are looked at, as in `are_symbols`.
-fn zeros(part: &[u8]) -> bool
-    ensures { λ r. ⌜ r ≡ all (eqb 0) (now (part .entry)) ⌝ }
+// Whether each byte of a part is a given one. All are looked at, as in `are_symbols`.
+pub fn all_are(part: &[u8], byte: u8) -> bool
+    ensures { λ r. ⌜ r ≡ all (eqb byte) (now (part .entry)) ⌝ }
 {
     let mut ok = true;
     let mut i: usize = 0;
     while i < part.len() {
-        if part[i] != 0 {
+        if part[i] != byte {
             ok = false;
         }
         i += 1;
@@ -73,5 +73,5 @@ pub fn is_laid(part: &[u8], n: usize) -> bool
     if !text::are_symbols(&part[..n]) {
         return false;
     }
-    zeros(&part[n..])
+    all_are(&part[n..], 0)
 }

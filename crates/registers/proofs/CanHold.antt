@@ -65,7 +65,7 @@ module _ (capacities values : List ℕ) where
       let end : length values ≡ i = omega (arith, h .few) in
       rw end (h .within)
 
-  each-within : values-within capacities values ≡ true → (i : ℕ) → getD values i 0 ≤ getD capacities i 0
+  pub each-within : values-within capacities values ≡ true → (i : ℕ) → getD values i 0 ≤ getD capacities i 0
   unfolding values-within
   each-within h i = go (ltb i (length values)) refl
     where

@@ -32,7 +32,7 @@ pub length-ones : (n : ℕ) → length (ones n) ≡ n
 length-ones n = length-replicate n _
 
 -- Ones with zeros after them, put where they fill a place
-one-bytes : (n : ℕ) → bytes-of (ones n) ≡ replicate n 49
+pub one-bytes : (n : ℕ) → bytes-of (ones n) ≡ replicate n 49
 one-bytes zero = refl
 one-bytes (suc n) = ap {B = Bytes} (λ r. 49 ∷ r) (one-bytes n)
 

@@ -23,22 +23,22 @@ returns-2 c =
     let a = c .before .before .before .before .before .args in
     sym (laid-other (a .part .now) (a .n) (search needs) (sym (c .before .are-symbols .ensures) ∙ not-true _ (c .if2 .taken)))
 
-sub-zeros : tie.Need-sub-zeros
-sub-zeros c = search needs
+sub-all-are : tie.Need-sub-all-are
+sub-all-are c = search needs
 
-part-zeros-start : tie.Need-part-zeros-start
-part-zeros-start c = search needs
+part-all-are-start : tie.Need-part-all-are-start
+part-all-are-start c = search needs
 
-part-zeros-end : tie.Need-part-zeros-end
-part-zeros-end c = search needs
+part-all-are-end : tie.Need-part-all-are-end
+part-all-are-end c = search needs
 
-zeros-requires : tie.Need-zeros-requires
-zeros-requires c κs = search needs
+all-are-requires : tie.Need-all-are-requires
+all-are-requires c κs = search needs
 
 returns-3 : tie.Need-returns-3
 returns-3 c =
     let a = c .before .before .before .before .before .before .before .args in
-    c .zeros .ensures ∙ sym (laid-rest (a .part .now) (a .n) (search needs) (sym (c .before .before .before .are-symbols .ensures)
+    c .all-are .ensures ∙ sym (laid-rest (a .part .now) (a .n) (search needs) (sym (c .before .before .before .are-symbols .ensures)
     ∙ not-false _ (c .before .before .if2 .left)))
 
 pub is-laid-spec : {M : Type 1} → statement M
@@ -49,8 +49,8 @@ is-laid-spec =
     slice-aggregate-are-symbols
     are-symbols-requires
     returns-2
-    sub-zeros
-    part-zeros-start
-    part-zeros-end
-    zeros-requires
+    sub-all-are
+    part-all-are-start
+    part-all-are-end
+    all-are-requires
     returns-3)

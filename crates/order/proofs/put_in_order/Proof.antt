@@ -4,13 +4,15 @@ use native.Mathlib.Omega.{arith}
 use Prim.Native.Nat.{_-_, min}
 use lib.ListN.{length}
 use borrow.Author.Needs.{needs}
-use Rattle.order.proofs.Turning.{Ordering, ordering-start, ordering-end, ordering-more}
+use Rattle.layout.proofs.Walks.{Walked, walk-start, walk-end, walk-more}
+use Rattle.order.proofs.Turning.{from-place, in-order-walk}
 use Rattle.order.proofs.put_in_order.Statement.{statement}
 use Rattle.order.proofs.put_in_order.Tie as tie
 
 abbrev Inv-loop : tie.InvT-loop
 Inv-loop store₀ starts capacities count from₀ i₀ store from i =
-    (count ≡ min (length capacities) (length starts)) × Ordering capacities starts store₀ store from i
+    (count ≡ min (length capacities) (length starts))
+    × Walked (min (length capacities) (length starts)) (from-place capacities starts) store₀ store from i
 
 abbrev μ-loop : tie.MeasureT-loop
 μ-loop store₀ starts capacities count from₀ i₀ store from i = count - i
@@ -21,7 +23,7 @@ shorter-requires c κs = search needs
 loop-holds : tie.Need-loop-holds Inv-loop μ-loop
 loop-holds c =
     let a = c .before .before .before .before .args in
-    (c .shorter .ensures, ordering-start (a .capacities .now) (a .starts .now) (a .store .now))
+    (c .shorter .ensures, walk-start _ (from-place (a .capacities .now) (a .starts .now)) (a .store .now))
 
 mul-wide : tie.Need-mul-wide Inv-loop μ-loop
 mul-wide c = search needs
@@ -70,7 +72,7 @@ loop-again c =
     let a = c .before .before .before .before .before .before .before .before .before .before .before .before .before .before .args in
     let inv = c .before .before .before .before .before .before .before .before .before .loop .inv in (
       inv .0,
-      ordering-more (a .capacities .now) (a .starts .now) (a .store .now) (inv .1)
+      walk-more (in-order-walk (a .capacities .now) (a .starts .now)) (inv .1)
           (omega (arith, inv .0, c .before .before .before .before .before .before .before .before .loop-test .taken))
           (c .before .before .before .before .before .shorter2 .result) _
           (rw (← c .before .before .before .before .before .before .wide .ensures) (c .before .before .before .before .before .shorter2
@@ -84,7 +86,7 @@ returns : tie.Need-returns Inv-loop μ-loop
 returns c =
     let a = c .before .before .before .before .before .before .args in
     let inv = c .before .loop .inv in
-    ordering-end (a .capacities .now) (a .starts .now) (a .store .now) (inv .1) (omega (arith, inv .0, c .loop-test .left))
+    walk-end (in-order-walk (a .capacities .now) (a .starts .now)) (inv .1) (omega (arith, inv .0, c .loop-test .left))
 
 pub put-in-order-spec : {M : Type 1} → statement M
 put-in-order-spec =

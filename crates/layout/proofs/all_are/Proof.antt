@@ -1,4 +1,4 @@
--- `zeros` meets its contract: what was seen so far and what the bytes from `i` on pass decide.
+-- `all_are` meets its contract: what was seen so far and what the bytes from `i` on pass decide.
 use mathlib.Core.Path.{_≡_, refl, sym, ap, _∙_}
 use mathlib.Core.Bool.{Bool, _&&_}
 use mathlib.Core.Logic.{⊎-elim}
@@ -9,14 +9,14 @@ use Rattle.text.proofs.Tests.{all-next, all-fails, all-passed}
 use lib.Dec.{eqb}
 use borrow.Author.Tests.{eq-eqb, ne-eqb}
 use borrow.Author.Needs.{needs}
-use Rattle.layout.proofs.zeros.Statement.{statement}
-use Rattle.layout.proofs.zeros.Tie as tie
+use Rattle.layout.proofs.all_are.Statement.{statement}
+use Rattle.layout.proofs.all_are.Tie as tie
 
 abbrev Inv-loop : tie.InvT-loop
-Inv-loop part ok₀ i₀ ok i = (i ≤ length part) × (all (eqb 0) part ≡ (ok && all (eqb 0) (drop i part)))
+Inv-loop part byte ok₀ i₀ ok i = (i ≤ length part) × (all (eqb byte) part ≡ (ok && all (eqb byte) (drop i part)))
 
 abbrev μ-loop : tie.MeasureT-loop
-μ-loop part ok₀ i₀ ok i = length part - i
+μ-loop part byte ok₀ i₀ ok i = length part - i
 
 loop-holds : tie.Need-loop-holds Inv-loop μ-loop
 loop-holds c = (search needs, refl)
@@ -33,12 +33,17 @@ loop-less c = search needs
 loop-again : tie.Need-loop-again Inv-loop μ-loop
 loop-again c =
     let l = c .before .before .before .loop in
-    let p = c .before .before .before .before .args .part .now in
+    let a = c .before .before .before .before .args in
+    let p = a .part .now in
+    let byte = a .byte in
     ⊎-elim
-    (λ w. (search needs, rw (w .1) (l .inv .1 ∙ all-fails (eqb 0) p (l .i) (l .ok) (search needs) (ne-eqb 0 _ (λ e. w .0 .taken (sym e))))))
     (λ w. (
       search needs,
-      rw (w .1) (l .inv .1 ∙ ap (λ (b : Bool). l .ok && b) (all-next (eqb 0) p (l .i) (search needs) (eq-eqb 0 _ (sym
+      rw (w .1) (l .inv .1 ∙ all-fails (eqb byte) p (l .i) (l .ok) (search needs) (ne-eqb byte _ (λ e. w .0 .taken (sym e)))),
+    ))
+    (λ w. (
+      search needs,
+      rw (w .1) (l .inv .1 ∙ ap (λ (b : Bool). l .ok && b) (all-next (eqb byte) p (l .i) (search needs) (eq-eqb byte _ (sym
           (w .0 .left))))),
     ))
     (c .if1 .came)
@@ -46,10 +51,11 @@ loop-again c =
 returns : tie.Need-returns Inv-loop μ-loop
 returns c =
     let l = c .before .loop in
-    sym (l .inv .1 ∙ all-passed (eqb 0) (c .before .before .args .part .now) (l .i) (l .ok) (search needs))
+    let a = c .before .before .args in
+    sym (l .inv .1 ∙ all-passed (eqb (a .byte)) (a .part .now) (l .i) (l .ok) (search needs))
 
-pub zeros-spec : {M : Type 1} → statement M
-zeros-spec =
+pub all-are-spec : {M : Type 1} → statement M
+all-are-spec =
     tie.close
     (tie.spec
     Inv-loop
