@@ -1,0 +1,10 @@
+pub mod Loops
+pub mod Bulk
+pub mod Filling
+pub mod Rooms
+pub mod Poured
+pub mod Shapes
+pub mod AtOnce
+pub mod Parts
+pub mod Pouring
+pub mod Answers
