@@ -56,7 +56,7 @@ module _ (m : Memory) (p : Position) (budget : ℕ) (t : List Entry) where
   unfolding table-called rule-10 read-table-for table-for
   table-read h f = rw (h, f)
 
-  -- the run on rings, which knows no rule but 10 and 15, answers as the table's does
+  -- the run, which knows no rule but 10 and 15, answers as the table's does
   pub table-run : table-fault t ≡ none → usable-called m p budget t ≡ table-called m p budget t
   unfolding usable-called usable-table table-called read-table-for rule-15
   table-run f = rw (f, accepted-search (count m) t f)

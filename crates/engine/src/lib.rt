@@ -22,7 +22,7 @@ pub fn run_numbers(
         (zipped (now (kinds .entry)) (now (operands .entry))) ⌝ }
 {
     match table::check(kinds, operands) {
-        Read::Done(_) => rings::run(capacities, store, lengths, at, kinds, operands, budget),
+        Read::Done(_) => runs::run(capacities, store, lengths, at, kinds, operands, budget),
         Read::Refused(r) => turned_down(capacities, store, lengths, at, r),
     }
 }

@@ -1,0 +1,4 @@
+pub mod Single
+pub mod Counting
+pub mod Tested
+pub mod Whole
