@@ -171,6 +171,20 @@ fn memory(machine: &Machine) -> Vec<u32> {
     memory
 }
 
+/// A machine as a run that came to this outcome left it.
+pub fn machine_after(before: &Machine, outcome: &Outcome) -> Machine {
+    let (store, rest) = outcome.memory.split_at(before.store.len());
+    let (lengths, rest) = rest.split_at(before.registers());
+    let store = store.iter().map(|&b| b as u8).collect();
+    let lengths = lengths.iter().map(|&n| n as u16).collect();
+    Machine { capacities: before.capacities.clone(), store, lengths, place: rest[0] as i32, steps: rest[1] }
+}
+
+/// Kinds and operands of a table.
+pub fn split(table: &[Instruction]) -> (Vec<u8>, Vec<u32>) {
+    (table.iter().map(|i| i.kind).collect(), table.iter().map(|i| i.operand).collect())
+}
+
 /// Kinds and operands as a table as long as the longer of them; what is missing counts as 0.
 fn zipped(kinds: &[u8], operands: &[u32]) -> Vec<Instruction> {
     let at = |i: usize| Instruction { kind: kinds.get(i).copied().unwrap_or(0), operand: operands.get(i).copied().unwrap_or(0) };
@@ -239,6 +253,15 @@ fn printed(text: &str) -> Outcome {
 }
 
 impl Case {
+    /// A run of instructions, as a word and as a table.
+    pub fn runs(table: &[Instruction], machine: &Machine, budget: u32) -> [Case; 2] {
+        let (kinds, operands) = split(table);
+        [
+            Case::RunWord { word: spell(table), machine: machine.clone(), budget },
+            Case::RunTable { kinds, operands, machine: machine.clone(), budget },
+        ]
+    }
+
     pub fn name(&self) -> &'static str {
         match self {
             Case::Convert { program: Program::Text(_), .. } => "read a text",

@@ -1,5 +1,6 @@
 //! Cases at the limits: the last thing that each rule lets pass and the first that it turns down, alone and with faults of other rules.
 
+pub mod drains;
 pub mod listings;
 
 use crate::machine::{self, Machine};

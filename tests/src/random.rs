@@ -1,19 +1,24 @@
 //! Cases by chance, the same for the same seed: programs, listings, words, states, sheets, and damage to them.
 
 use crate::cases::{form_of, ANY, LOOP_ONLY, PLAIN, TIDY};
+use crate::edges::drains::{counted, drain, mark};
 use crate::edges::{listings, NEARLY, OTHER_FORMS, OTHER_SETTINGS};
 use crate::listing::{self, Line};
 use crate::machine::{self, Machine};
 use crate::program::{self, list, variables, write, Command, Kind, Setting, OPEN};
 use crate::source::{self, State};
 use crate::spellings::{digits, primes, respelled};
-use crate::translation::translate;
+use crate::translation::{add, backward, cases, forward, spread, translate};
 use crate::word::{spell, Instruction};
+use crate::End;
 
 /// So many cases by chance, or as many as ROUNDS says.
 pub fn rounds(usual: usize) -> usize {
     std::env::var("ROUNDS").ok().and_then(|n| n.parse().ok()).unwrap_or(usual)
 }
+
+/// A run by chance that hasn't ended after so many steps has a budget of at most that.
+pub const LONGEST: u32 = 20_000;
 
 /// A generator of 64-bit numbers (splitmix64).
 pub struct Random(u64);
@@ -461,6 +466,110 @@ impl Random {
         let marks = usize::from(self.once_in(5));
         let contents: Vec<_> = capacities[..k].iter().map(|&c| self.symbols(c.into(), marks)).collect();
         (spell(&translate(form_of(self.form()), &commands)), Machine::fresh(&capacities, &contents))
+    }
+
+    /// The start of a run, or the middle of it, if the machine has accepted its instructions; with a budget and a count of steps around its
+    /// end.
+    pub fn started(&mut self, accepted: Option<Vec<Instruction>>, mut machine: Machine) -> (Machine, u32) {
+        let mut budget = self.below(3000) as u32;
+        if let Some(table) = accepted {
+            let (end, ended) = machine.clone().run(&table, LONGEST);
+            let done = if self.once_in(2) { self.below(ended as usize + 1) as u32 } else { 0 };
+            machine.run(&table, done);
+            budget = self.around(ended - done);
+            if end == End::Spent {
+                budget = budget.min(LONGEST);
+            }
+            machine.steps = self.count(ended - done);
+        }
+        (machine, budget)
+    }
+
+    fn register(&mut self, registers: usize) -> usize {
+        1 + self.below(registers)
+    }
+
+    /// One instruction; few append `#`.
+    fn loose(&mut self, registers: usize) -> Instruction {
+        let register = self.register(registers);
+        match self.below(16) {
+            0 => mark(register),
+            1..=6 => add(register),
+            7..=9 => cases(register),
+            10..=13 => forward(1 + self.below(6)),
+            _ => backward(1 + self.below(8)),
+        }
+    }
+
+    /// A loop that empties a register, or nearly one.
+    fn one_drain(&mut self, registers: usize) -> Vec<Instruction> {
+        let a = self.register(registers);
+        let itself = self.once_in(8);
+        let mut to: Vec<_> = (0..self.below(5)).map(|_| self.register(registers)).collect();
+        to.retain(|&r| r != a || itself);
+        let mut word = drain(a, &to);
+        if self.once_in(4) {
+            let at = self.below(word.len());
+            word[at] = self.loose(registers);
+        }
+        word
+    }
+
+    /// A word of such loops, inside one another, and of what stands between them.
+    pub fn drains(&mut self, registers: usize) -> Vec<Instruction> {
+        let mut word = Vec::new();
+        for _ in 0..1 + self.below(4) {
+            word.extend(match self.below(8) {
+                0 | 1 => vec![self.loose(registers)],
+                2 => spread(self.register(registers), self.register(registers), self.register(registers)),
+                3 => {
+                    let body = self.drains(registers);
+                    counted(self.register(registers), &body)
+                }
+                _ => self.one_drain(registers),
+            });
+        }
+        word
+    }
+
+    /// Registers of these capacities that hold 1s; once in five times there is one `#`.
+    fn ones(&mut self, capacities: &[u16], most: usize) -> Machine {
+        let mut contents: Vec<_> = capacities.iter().map(|&c| vec![b'1'; self.amount(most.min(c.into()))]).collect();
+        if self.once_in(5) {
+            let at = self.below(contents.len());
+            let place = self.below(contents[at].len());
+            contents[at].get_mut(place).into_iter().for_each(|symbol| *symbol = b'#');
+        }
+        Machine::fresh(capacities, &contents)
+    }
+
+    /// Such a word, and a machine with 1s that starts it at any place.
+    pub fn drains_on_ones(&mut self) -> (Vec<Instruction>, Machine) {
+        let registers = 1 + self.below(5);
+        let word = self.drains(registers);
+        let unnamed = self.pick(&[0, 0, 1]);
+        let capacities = self.capacities(registers + unnamed);
+        let mut machine = self.ones(&capacities, machine::CAPACITY);
+        if self.once_in(3) {
+            machine.place = self.below(word.len() + 3) as i32;
+        }
+        (word, machine)
+    }
+
+    /// The word of a program whose variables have values up to 1,000, and a machine with few registers that it does not name.
+    pub fn translated_to_thousands(&mut self) -> (Vec<Instruction>, Machine) {
+        let (lines, names) = (1 + self.below(9), 1 + self.below(3));
+        let commands = self.program(Setting::Any, lines, names);
+        let word = translate(form_of(self.form()), &commands);
+        let named = word.iter().filter_map(|i| i.register()).max().unwrap_or(0);
+        let mut capacities = vec![machine::CAPACITY as u16; 1 + named];
+        if self.once_in(2) {
+            capacities.fill_with(|| 1 + self.below(machine::CAPACITY) as u16);
+        }
+        let most = self.pick(&[3, 40, 1_000]);
+        let mut machine = self.ones(&capacities, most);
+        (variables(&commands) + 1..=named).for_each(|r| machine.empty(r));
+        (word, machine)
     }
 
     /// What so many registers hold to start with: at most so many symbols, some of them #.

@@ -23,7 +23,7 @@ pub fn backward(n: usize) -> Instruction {
     Instruction { kind: 4, operand: n as u32 }
 }
 
-fn add(r: usize) -> Instruction {
+pub fn add(r: usize) -> Instruction {
     Instruction { kind: 1, operand: r as u32 }
 }
 
@@ -31,7 +31,7 @@ fn clear(a: usize) -> [Instruction; 3] {
     [cases(a), forward(2), backward(2)]
 }
 
-fn spread(a: usize, b: usize, t: usize) -> Vec<Instruction> {
+pub fn spread(a: usize, b: usize, t: usize) -> Vec<Instruction> {
     vec![cases(a), forward(4), add(b), add(t), backward(4), cases(t), forward(3), add(a), backward(3)]
 }
 

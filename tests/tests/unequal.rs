@@ -1,7 +1,7 @@
 //! Registers of unequal length (document 02, request 5): its claims on programs and capacities by chance, on the twin; and rules 9, 10, 18
 //! and 21, runs that get full and budgets cut in two, on the twin and, where it is linked, on the library.
 
-use twin::cases::{outcome, Case, Outcome, Program, ANY};
+use twin::cases::{machine_after, outcome, Case, Outcome, Program, ANY};
 use twin::edges::CAPACITIES;
 use twin::machine::Machine;
 use twin::page::REPORT_BYTES;
@@ -177,15 +177,8 @@ fn ran(text: &str, capacities: &[u16], start: &[u32]) -> (Answer, Answer, Vec<u3
     let (state, machine, word) = fresh(text, capacities, start);
     let numbers = state.numbers().to_vec();
     let source = outcome(&Case::RunSource { setting: ANY, program: Program::Text(text.into()), state: numbers, budget: 1_000 });
-    let case = Case::RunWord { word: spell(&word), machine: machine.clone(), budget: 1_000 };
-    let run = outcome(&case);
-    let table = Case::RunTable {
-        kinds: word.iter().map(|i| i.kind).collect(),
-        operands: word.iter().map(|i| i.operand).collect(),
-        machine: machine.clone(),
-        budget: 1_000,
-    };
-    assert_eq!(outcome(&table), run);
+    let [run, table] = Case::runs(&word, &machine, 1_000).map(|case| outcome(&case));
+    assert_eq!(table, run);
     let k = capacities.len();
     let lengths = run.memory[machine.store.len()..].to_vec();
     (source.answer, run.answer, source.memory[source::VALUES..source::VALUES + k].to_vec(), lengths[..k].to_vec())
@@ -430,13 +423,6 @@ fn values() {
 /// never 0 here, the same end.
 #[test]
 fn budgets_cut_in_two() {
-    let again = |machine: &Machine, memory: &[u32]| {
-        let (store, rest) = memory.split_at(machine.store.len());
-        let (lengths, rest) = rest.split_at(machine.registers());
-        let store = store.iter().map(|&b| b as u8).collect();
-        let lengths = lengths.iter().map(|&n| n as u16).collect();
-        Machine { capacities: machine.capacities.clone(), store, lengths, place: rest[0] as i32, steps: rest[1] }
-    };
     let steps = |outcome: &Outcome| match outcome.answer {
         Answer::Ended(_, steps) => steps,
         other => panic!("{other:?}"),
@@ -467,7 +453,7 @@ fn budgets_cut_in_two() {
         let word = spell(&translate(Form::Plain, &commands));
         let run = |machine: &Machine, budget: u32| outcome(&Case::RunWord { word: word.clone(), machine: machine.clone(), budget });
         let one = run(&machine, first);
-        let two = run(&again(&machine, &one.memory), second);
+        let two = run(&machine_after(&machine, &one), second);
         let whole = run(&machine, first + second);
         assert_eq!((end(&two), steps(&one) + steps(&two), &two.memory), (end(&whole), steps(&whole), &whole.memory), "{commands:?}");
     }

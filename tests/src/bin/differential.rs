@@ -6,18 +6,15 @@ use std::collections::BTreeMap;
 use std::env;
 use std::process::exit;
 use std::time::{Duration, Instant};
-use twin::cases::{form_of, setting_of, Case, Program, ANY, LOOP_ONLY, PLAIN, TIDY};
+use twin::cases::{form_of, setting_of, split, Case, Program, ANY, LOOP_ONLY, PLAIN, TIDY};
 use twin::library::RunTool;
 use twin::machine::Machine;
 use twin::program::{list, read, variables, write, Setting};
-use twin::random::Random;
+use twin::random::{Random, LONGEST};
 use twin::spellings::every_choice;
 use twin::translation::{translate, Form};
 use twin::word::{self, spell, Instruction};
 use twin::{edges, listing, source, tool, Answer, End};
-
-/// A run by chance that hasn't ended after so many steps has a budget of at most that.
-const LONGEST: u32 = 20_000;
 
 /// The answers of each call, every one of which must come `LEAST` times.
 const ANSWERS: [(&str, &str); 14] = [
@@ -180,16 +177,9 @@ fn spelling_edges(tally: &mut Tally) {
     }
 }
 
-/// Kinds and operands of a table.
-fn numbers(table: &[Instruction]) -> (Vec<u8>, Vec<u32>) {
-    (table.iter().map(|i| i.kind).collect(), table.iter().map(|i| i.operand).collect())
-}
-
 /// A run of instructions, as a word and as a table.
 fn run_both(tally: &mut Tally, table: &[Instruction], machine: &Machine, budget: u32) {
-    let (kinds, operands) = numbers(table);
-    tally.hold(Case::RunWord { word: spell(table), machine: machine.clone(), budget });
-    tally.hold(Case::RunTable { kinds, operands, machine: machine.clone(), budget });
+    Case::runs(table, machine, budget).into_iter().for_each(|case| tally.hold(case));
 }
 
 /// A word from a fresh machine with every budget up to past its end, every count of steps near the largest, and from every place; and the
@@ -403,24 +393,8 @@ fn source_case(random: &mut Random, setting: u32, program: Program) -> Case {
     Case::RunSource { setting, program, state: state.numbers().to_vec(), budget }
 }
 
-/// The same for a word: the machine then, and a budget.
-fn word_start(random: &mut Random, accepted: Option<Vec<Instruction>>, mut machine: Machine) -> (Machine, u32) {
-    let mut budget = random.below(3000) as u32;
-    if let Some(table) = accepted {
-        let (end, ended) = machine.clone().run(&table, LONGEST);
-        let done = if random.once_in(2) { random.below(ended as usize + 1) as u32 } else { 0 };
-        machine.run(&table, done);
-        budget = random.around(ended - done);
-        if end == End::Spent {
-            budget = budget.min(LONGEST);
-        }
-        machine.steps = random.count(ended - done);
-    }
-    (machine, budget)
-}
-
 fn word_case(random: &mut Random, word: Vec<u8>, machine: Machine) -> Case {
-    let (machine, budget) = word_start(random, machine.accept(&word).ok(), machine);
+    let (machine, budget) = random.started(machine.accept(&word).ok(), machine);
     Case::RunWord { word, machine, budget }
 }
 
@@ -432,7 +406,7 @@ fn table_by_chance(random: &mut Random, registers: usize) -> (Vec<u8>, Vec<u32>,
         table[at] = Instruction { kind: random.pick(&[0, 5, 6, 255]), operand: random.pick(&[0, 1, 599_995, 600_000, u32::MAX]) };
     }
     let length = if word::check_table(&table).is_ok() { spell(&table).len() } else { 9 };
-    let (mut kinds, mut operands) = numbers(&table);
+    let (mut kinds, mut operands) = split(&table);
     match random.below(12) {
         0 => kinds.truncate(random.below(table.len())),
         1 => operands.truncate(random.below(table.len())),
@@ -452,7 +426,7 @@ fn table_case(random: &mut Random) -> Case {
     let (kinds, operands, _) = table_by_chance(random, named);
     let table: Vec<_> = kinds.iter().zip(&operands).map(|(&kind, &operand)| Instruction { kind, operand }).collect();
     let accepted = (kinds.len() == operands.len() && machine.accept_table(&table).is_ok()).then_some(table);
-    let (machine, budget) = word_start(random, accepted, machine);
+    let (machine, budget) = random.started(accepted, machine);
     Case::RunTable { kinds, operands, machine, budget }
 }
 
@@ -485,6 +459,8 @@ fn by_chance(tally: &mut Tally, random: &mut Random) {
     tally.hold(Case::Listing { lent: lent(random, listed(&text)), text });
     let (word, machine) = random.listed();
     tally.hold(word_case(random, word, machine));
+    let (word, machine) = random.drains_on_ones();
+    tally.hold(word_case(random, spell(&word), machine));
     tally.hold(written_case(random));
     tally.hold(table_case(random));
     tally.hold(Case::Value { machine: random.left_over() });

@@ -62,12 +62,26 @@ fn speed() -> Vec<Work> {
         running_word("word run, 100,000 steps, 60 symbols, unequal", 0, &moving, &unequal, false),
         running_word("table run, 100,000 steps, 60 symbols", 0, &moving, &first(60), true),
         running_word("table run, 1 step, 64 registers of 1,024", 0, b"1###", &Machine::alike(64, 1024, &[]), true),
+        running_program("word run, 100,000 steps, copies of 1,000", COPIES, &[1000]),
+        running_program("word run, 100,000 steps, copies of 100", COPIES, &[100]),
+        running_program("word run, 100,000 steps, copies of 6", COPIES, &[6]),
+        running_program("word run, 100,000 steps, copies of 1", COPIES, &[1]),
+        running_program("word run, a product of 30 and 30", MULTIPLY, &[0, 30, 30]),
+        running_program("word run, the predecessor of 100", PREDECESSOR, &[0, 100]),
+        running_program("word run, 10 loops of 2 in one another", &loops(10), &[0, 2]),
+        running_word("word run, 100,000 steps, 60 ones, other loops", 0, &stepping_word(), &first(60), false),
         valuing("value, 64 registers of 1,024", &Machine::alike(64, 1024, &[vec![b'1'; 1024]])),
     ]
 }
 
 fn reports() -> Vec<Work> {
-    vec![reporting("report of no runs: start-up", 0), reporting("report of 6 runs", 6), reporting("report of 400 runs", 400)]
+    let spent = "\n".repeat(4096);
+    vec![
+        reporting_products("report of no runs: start-up", 0),
+        reporting_products("report of 6 runs", 6),
+        reporting_products("report of 400 runs", 400),
+        reporting("report of 4,095 runs, all spent", 4095, SPENT, &spent).once(),
+    ]
 }
 
 fn against_plain_c() -> Vec<Work> {

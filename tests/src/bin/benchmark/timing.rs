@@ -7,6 +7,7 @@ use std::time::{Duration, Instant};
 pub struct Work {
     name: String,
     size: usize,
+    rounds: usize,
     library: Box<dyn FnMut()>,
     other: Box<dyn FnMut()>,
 }
@@ -21,7 +22,12 @@ pub struct Row {
 
 impl Work {
     pub fn new(name: &str, size: usize, library: impl FnMut() + 'static, other: impl FnMut() + 'static) -> Work {
-        Work { name: name.into(), size, library: Box::new(library), other: Box::new(other) }
+        Work { name: name.into(), size, rounds: ROUNDS, library: Box::new(library), other: Box::new(other) }
+    }
+
+    /// The same work, done once: one that takes seconds.
+    pub fn once(self) -> Work {
+        Work { rounds: 1, ..self }
     }
 }
 
@@ -49,12 +55,14 @@ fn times(work: &mut dyn FnMut()) -> u32 {
     times
 }
 
-/// The best of several times of each work: all works once, then all again.
+/// The best of several times of each work: all works once, then all again that are done more than once.
 pub fn measure(mut works: Vec<Work>) -> Vec<Row> {
-    let counts: Vec<_> = works.iter_mut().map(|w| (times(&mut w.library), times(&mut w.other))).collect();
+    let counts = |w: &mut Work| if w.rounds == 1 { (1, 1) } else { (times(&mut w.library), times(&mut w.other)) };
+    let counts: Vec<_> = works.iter_mut().map(counts).collect();
     let mut best = vec![(Duration::MAX, Duration::MAX); works.len()];
-    for _ in 0..ROUNDS {
-        for ((work, best), count) in works.iter_mut().zip(&mut best).zip(&counts) {
+    for round in 0..ROUNDS {
+        let done = works.iter_mut().zip(&mut best).zip(&counts).filter(|((work, _), _)| round < work.rounds);
+        for ((work, best), count) in done {
             best.0 = best.0.min(batch(&mut work.library, count.0) / count.0);
             best.1 = best.1.min(batch(&mut work.other, count.1) / count.1);
         }

@@ -6,18 +6,24 @@ use std::path::PathBuf;
 use std::process::{Command as Process, Stdio};
 use std::rc::Rc;
 use std::{env, fs};
-use twin::cases::{form_of, Program, ANY};
+use twin::cases::{form_of, split, Program, ANY};
 use twin::library::{self, Code};
 use twin::listing;
 use twin::machine::Machine;
 use twin::program::{self, read, read_list, Command, Kind, Setting};
 use twin::source::{check, run, State};
 use twin::spellings::primes;
-use twin::translation::{translate, Form};
+use twin::translation::{add, backward, cases, forward, translate, Form};
 use twin::word::{self, spell, Instruction};
 
 pub const MULTIPLY: &[u8] = b"X0 <- 0\nloop X1\nloop X2\nX0 <- X0 + 1\nendloop X2\nendloop X1\n";
 pub const BUSY: &[u8] = b"while X1 != 0\nX0 <- X1\nX2 <- X0\nloop X2\nX3 <- 0\nX3 <- X3 + 1\nendloop X2\nendwhile X1 != 0\n";
+/// Copies X0 to X1 for ever.
+pub const COPIES: &[u8] = b"while X0 != 0\nX1 <- X0\nendwhile X0 != 0\n";
+/// X0 becomes X1 - 1.
+pub const PREDECESSOR: &[u8] = b"X0 <- 0\nX2 <- 0\nloop X1\nX0 <- X2\nX2 <- X2 + 1\nendloop X1\n";
+/// Spent, the source and the word.
+pub const SPENT: &[u8] = b"X0 <- X0 + 1\nwhile X0 != 0\nX1 <- X1\nendwhile X0 != 0\n";
 
 /// So many loops on X31 around so many `X31 <- X30`. 16 around 480 have the longest word known.
 pub fn nested(depth: usize, copies: usize) -> Vec<u8> {
@@ -25,6 +31,11 @@ pub fn nested(depth: usize, copies: usize) -> Vec<u8> {
     commands.extend(vec![Command::Copy { to: 31, from: 30 }; copies]);
     commands.extend(vec![Command::Close(Kind::Loop, 31); depth]);
     program::write(&commands)
+}
+
+/// So many loops on X1 around an increment of X0.
+pub fn loops(depth: usize) -> Vec<u8> {
+    ["loop X1\n".repeat(depth), "X0 <- X0 + 1\n".into(), "endloop X1\n".repeat(depth)].concat().into_bytes()
 }
 
 /// A text of as many lines and as many bytes as one may have, in primes.
@@ -61,6 +72,12 @@ pub fn moving_word() -> Vec<u8> {
     let half = |from: u32, to: u32, on_empty: (u8, u32)| [(5, from), on_empty, (3, 3), (2, to), (4, 4), (1, to), (4, 6)];
     let moves = [half(1, 2, (3, 6)), half(2, 1, (4, 8))].concat();
     spell(&moves.into_iter().map(|(kind, operand)| Instruction { kind, operand }).collect::<Vec<_>>())
+}
+
+/// The same for 1s alone, by loops that have a forward step inside.
+pub fn stepping_word() -> Vec<u8> {
+    let half = |from: usize, to: usize, on_empty: Instruction| [cases(from), on_empty, forward(1), add(to), backward(4)];
+    spell(&[half(1, 2, forward(4)), half(2, 1, backward(6))].concat())
 }
 
 pub fn reading(name: &str, size: usize, text: &[u8]) -> Work {
@@ -153,8 +170,7 @@ pub fn running_source(name: &str, program: Program, values: &[u32]) -> Work {
 
 /// The kinds and operands of a word.
 fn numbers_of(text: &[u8]) -> (Vec<u8>, Vec<u32>) {
-    let table = word::read(text).expect("a word");
-    (table.iter().map(|i| i.kind).collect(), table.iter().map(|i| i.operand).collect())
+    split(&word::read(text).expect("a word"))
 }
 
 /// A word written by the library, as a work of which the other half is still to be said.
@@ -242,6 +258,14 @@ pub fn running_word(name: &str, size: usize, text: &[u8], fresh: &Machine, read:
     )
 }
 
+/// A program's word run likewise, from these values.
+pub fn running_program(name: &str, text: &[u8], values: &[usize]) -> Work {
+    let word = word_of(text);
+    let named = word::read(&word).expect("a word").iter().filter_map(|i| i.register()).max().unwrap_or(1);
+    let ones: Vec<_> = values.iter().map(|&v| vec![b'1'; v]).collect();
+    running_word(name, 0, &word, &Machine::alike(named, 1024, &ones), false)
+}
+
 /// The value of a machine.
 pub fn valuing(name: &str, machine: &Machine) -> Work {
     let (machine, again) = (machine.clone(), machine.clone());
@@ -257,12 +281,17 @@ pub fn valuing(name: &str, machine: &Machine) -> Work {
     )
 }
 
-/// The run tool that RUN_TOOL names against the twin's, as processes in one folder, on so many products of 30 and 30.
-pub fn reporting(name: &str, rows: usize) -> Work {
+/// A report of so many products of 30 and 30.
+pub fn reporting_products(name: &str, rows: usize) -> Work {
+    reporting(name, rows, MULTIPLY, &("X1 X2\n".to_string() + &"30 30\n".repeat(rows)))
+}
+
+/// The run tool that RUN_TOOL names against the twin's, as processes in one folder, on a program and a sheet of so many rows.
+pub fn reporting(name: &str, rows: usize, text: &[u8], sheet: &str) -> Work {
     let folder = env::temp_dir().join(format!("benchmark-{}-{rows}", std::process::id()));
     fs::create_dir_all(&folder).expect("a folder for the files");
-    fs::write(folder.join("program.txt"), MULTIPLY).expect("a file in the folder");
-    fs::write(folder.join("sheet.txt"), "X1 X2\n".to_string() + &"30 30\n".repeat(rows)).expect("a file in the folder");
+    fs::write(folder.join("program.txt"), text).expect("a file in the folder");
+    fs::write(folder.join("sheet.txt"), sheet).expect("a file in the folder");
     let tool = env::var_os("RUN_TOOL").expect("RUN_TOOL names the run tool");
     let twin = env::current_exe().expect("this program's path").with_file_name("twin-tool");
     let folder = Rc::new(Folder(folder));
