@@ -8,7 +8,7 @@ use Rattle.theory.specs.Word.{Entry}
 use Rattle.theory.specs.Machines.{Value, valued, untidy}
 use Rattle.theory.specs.TurnedDown.{Answer, done, refused}
 use Rattle.word.specs.Answers.{read-answer, written-answer}
-use Rattle.source.specs.Answers.{ended-by}
+use Rattle.source_state.specs.Answers.{ended-by}
 use Rattle.memory.specs.Calls.{value-answer}
 use Rattle.packing.specs.Packed.{packed, count, ending, symbols}
 use Rattle.machine_packing.specs.Answered.{word-read, word-written, source-ended, value-read}

@@ -5,8 +5,8 @@ use Rattle.word.specs.declared.answers.Read.{Read}
 use Rattle.word.specs.declared.answers.Read.the-variants as Read
 use Rattle.word.specs.declared.answers.Written.{Written}
 use Rattle.word.specs.declared.answers.Written.the-variants as Written
-use Rattle.source.specs.declared.answers.Ended as Source
-use Rattle.source.specs.declared.answers.Ended.the-variants as SourceEnded
+use Rattle.source_state.specs.declared.Ended as Source
+use Rattle.source_state.specs.declared.Ended.the-variants as SourceEnded
 use Rattle.memory.specs.declared.answers.Ended as Machine
 use Rattle.memory.specs.declared.answers.Ended.the-variants as MachineEnded
 use Rattle.memory.specs.declared.answers.Value.{Value}

@@ -27,9 +27,9 @@ use Rattle.memory.specs.declared.answers.Position.{Position}
 use Rattle.memory.specs.declared.answers.Run as M
 use Rattle.machine.proofs.ByByte.{ended-by-byte, ran-by-table}
 use Rattle.machine.proofs.ReadWord.{word-good, word-read}
-use Rattle.source.specs.Answers.{source-state, fresh-state, ended-by, state-by, HandsBack}
-use Rattle.source.specs.declared.answers.Run.{Run}
-use Rattle.source.specs.declared.answers.State.{State}
+use Rattle.source_state.specs.Answers.{source-state, fresh-state, ended-by, state-by, HandsBack}
+use Rattle.source_state.specs.declared.Run.{Run}
+use Rattle.source_state.specs.declared.State.{State}
 use Rattle.capacities.specs.Room.{of-variables}
 use Rattle.report.specs.Fresh.{values-of, IsSet, Starts}
 use Rattle.report.specs.Rows.{ended-of, word-ended, source-ended, row-of, Ready, Tabled, Ran}

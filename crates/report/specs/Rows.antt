@@ -17,7 +17,7 @@ use Rattle.capacities.specs.Room.{of-variables}
 use Rattle.theory.specs.declared.End.the-variants.{Spent}
 use Rattle.word.specs.Answers.{zipped}
 use Rattle.memory.specs.declared.answers.Ended as M
-use Rattle.source.specs.declared.answers.Ended as R
+use Rattle.source_state.specs.declared.Ended as R
 use Rattle.sheet.specs.Answers.{names-record}
 use Rattle.sheet.specs.declared.answers.Names.{Names}
 use Rattle.printing.specs.declared.Ended.{Ended}

@@ -1,11 +1,11 @@
--- Rule 9 as the code checks it: a value, an entry of the passes-left, all of them, and the number of loops around the state's line.
+-- Rule 9 as the code checks it: all values and entries of the passes-left, and the number of loops around the state's line.
 use mathlib.Core.Path.{_≡_, refl, sym, ap, _∙_, fun-ext}
 use mathlib.Core.Bool.{Bool, true, false, cond, _&&_}
 use mathlib.Core.List.{List}
 use Prim.Native.Nat.{ℕ, suc, pred, _+_, _-_, _≤_, _<_}
 use native.Mathlib.Numerals.{add-one}
 use native.Mathlib.Omega.{arith}
-use borrow.Author.Tests.{ltb-true, lt-ltb, le-ltb, le-leb, lt-leb}
+use borrow.Author.Tests.{ltb-true}
 use lib.ListN.{length, getD}
 use lib.Dec.{ltb, leb, eqb}
 use Rattle.theory.specs.Limits.{most-capacity, state-values, state-passes}
@@ -17,28 +17,14 @@ use Rattle.theory.specs.Runs.{register}
 use Rattle.theory.specs.TurnedDown.{are-capacities, is-value, is-passes, is-source}
 use Rattle.theory.proofs.Faults.{and-first, and-second}
 use Rattle.theory.proofs.GoodSource.{capacity-at, limited}
-use Rattle.source.specs.Answers.{source-state}
-use Rattle.source.specs.declared.answers.State.{State}
-use Rattle.source.specs.Lines.{Deep, entry-at, is-value-within, is-passes-within, all-capacities, all-values, all-passes}
+use Rattle.source_state.specs.Answers.{source-state}
+use Rattle.source_state.specs.declared.State.{State}
+use Rattle.source_state.specs.Numbers.{is-value-within, is-passes-within}
+use Rattle.source.specs.Lines.{Deep, entry-at, all-capacities, all-values, all-passes}
 use Rattle.source.specs.Lines.{BoundsOf, Bounded, all-left}
 use Rattle.source.proofs.Program.{depth-last}
 use Rattle.source.proofs.Stepping.{kind-at, of-kind}
 use Rattle.source.proofs.Entries.{closed-depth, off-endloop}
-
-pub named-value : (capacity K i v : ℕ) → i < K → leb v capacity ≡ is-value-within capacity K i v
-named-value capacity K i v h = rw (lt-ltb i K h)
-
-pub unnamed-value : (capacity K i v : ℕ) → K ≤ i → eqb v 0 ≡ is-value-within capacity K i v
-unnamed-value capacity K i v h = rw (le-ltb i K h)
-
-pub other-passes : (capacity D d k : ℕ) → D ≤ d → eqb k 0 ≡ is-passes-within capacity D d k
-other-passes capacity D d k h = rw (le-ltb d D h)
-
-pub no-passes : (capacity D d k : ℕ) → d < D → k < 1 → false ≡ is-passes-within capacity D d k
-no-passes capacity D d k h z = rw (lt-ltb d D h, lt-leb 1 k z)
-
-pub some-passes : (capacity D d k : ℕ) → d < D → 1 ≤ k → leb k capacity ≡ is-passes-within capacity D d k
-some-passes capacity D d k h z = rw (lt-ltb d D h, le-leb 1 k z)
 
 -- A test of every number below n, from the first on
 pub all-one-more : (f : ℕ → Bool) (i : ℕ) → all-below i f ≡ true → f i ≡ true → all-below (i + 1) f ≡ true

@@ -1,42 +1,25 @@
--- What a fresh state is, and what a run hands back: on a refusal the state as it was, else the state where the steps led.
-use mathlib.Core.Path.{_≡_, refl, ap, _∙_, fun-ext}
+-- What a run hands back: on a refusal the state as it was, else the state where the steps led.
+use mathlib.Core.Path.{_≡_, refl, ap, _∙_}
 use mathlib.Core.Bool.{true, false}
 use mathlib.Core.List.{List, [], _∷_}
 use Prim.Native.Nat.{ℕ, zero, suc, _+_, _≤_}
 use native.Mathlib.Omega.{arith}
-use lib.ListN.{length, getD, replicate}
+use lib.ListN.{length, getD}
 use Rattle.theory.specs.Limits.{last-count, state-values, state-passes}
 use Rattle.theory.specs.Basics.{cells}
 use Rattle.theory.specs.ProgramText.{Command, commands}
 use Rattle.theory.specs.Runs.{run}
 use Rattle.theory.specs.Source as S
-use Rattle.theory.specs.Machines.{SourceState, run-source}
+use Rattle.theory.specs.Machines.{run-source}
 use Rattle.theory.specs.TurnedDown.{refused, is-source, rule-9, run-from}
 use Rattle.theory.specs.declared.Refusal.{Refusal}
 use Rattle.theory.proofs.Budgets.{steps-within}
-use Rattle.source.specs.Answers.{stands, source-state, fresh-state, Fresh, ended-by, state-by, moved-by, HandsBack}
+use Rattle.source_state.specs.Answers.{stands, source-state, ended-by, state-by, moved-by, HandsBack}
 use Rattle.source.specs.Lines.{machine-of, run-at, outcome-of}
-use Rattle.source.specs.declared.answers.State.{State}
+use Rattle.source_state.specs.declared.State.{State}
 use Rattle.source.specs.declared.steps.Stop.{Stop}
-use Rattle.source.specs.declared.answers.Ended.the-variants as E
+use Rattle.source_state.specs.declared.Ended.the-variants as E
 use Rattle.theory.proofs.Counts.{allows, same-allowed}
-
--- A fresh state
-
-all-zero : (n d : ℕ) → _≡_ {A = ℕ} (getD (replicate n 0) d 0) 0
-all-zero zero d = refl
-all-zero (suc n) zero = refl
-all-zero (suc n) (suc d) = all-zero n d
-
-pub fresh-back : (capacities values : List ℕ) → Fresh capacities values (fresh-state capacities values)
-fresh-back capacities values = record {
-  state = refl;
-  stands = ap {B = SourceState}
-      (λ f. record { capacities = capacities; steps = 0; state = record { line = 1; values = λ i. getD values i 0; passes = f } })
-      (fun-ext λ d. all-zero state-passes d);
-}
-
--- A run
 
 cells-of : (n : ℕ) (l : List ℕ) → length l ≡ n → cells n (λ i. getD l i 0) ≡ l
 cells-of zero [] e = refl

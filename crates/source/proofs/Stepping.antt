@@ -21,11 +21,13 @@ use Rattle.theory.specs.Source.{State, set-variable, go-to, perform, end-loop, 
 use Rattle.theory.proofs.Cells.{put-cases}
 use Rattle.theory.proofs.GoodSource.{capacity-at}
 use Rattle.theory.proofs.Partners.{Known}
-use Rattle.source.specs.Answers.{stands}
-use Rattle.source.specs.Lines.{Holds, decoded, command-at, entry-at, Jump, Reaches, Filled, stored, led, Stepped}
-use Rattle.source.specs.declared.steps.Stored.{Stored}
-use Rattle.source.specs.declared.steps.Stored.the-variants as Stored
-use Rattle.source.specs.declared.steps.Led.{Led}
+use Rattle.source_state.specs.Answers.{stands}
+use Rattle.source_state.specs.Numbers.{stored, led}
+use Rattle.source.specs.Lines.{Holds, decoded, command-at, entry-at, Jump, Reaches, Filled, Put, Left, Stepped}
+use Rattle.source_state.specs.declared.step.Stored.{Stored}
+use Rattle.source_state.specs.declared.step.Stored.the-variants as Stored
+use Rattle.source_state.specs.declared.step.Led.{Led}
+use Rattle.source.specs.declared.steps.Next.{Next}
 use Rattle.source.specs.declared.steps.Next.the-variants as N
 use Rattle.source.proofs.Program.{here, kind-within, no-second, partner, low-indices, depth-room}
 
@@ -244,7 +246,7 @@ module _ (l : List ℕ) (h : Holds l) (capacities : List ℕ) (line : ℕ) (low 
   Stores (Stored.Value v) = Stepped (commands l) capacities line vs ps (N.At (line + 1)) (set vs (first-at l m) v) ps
   Stores Stored.Full = Stepped (commands l) capacities line vs ps N.Full vs ps
 
-  pub stores : kind-at l m ≤ 3 → first-at l m < length vs → Stores (stored (kind-at l m) x y capacity)
+  stores : kind-at l m ≤ 3 → first-at l m < length vs → Stores (stored (kind-at l m) x y capacity)
   unfolding stored
   stores small i = go (ℕ-discrete (kind-at l m) 1) (ℕ-discrete (kind-at l m) 2)
     where
@@ -262,6 +264,15 @@ module _ (l : List ℕ) (h : Holds l) (capacities : List ℕ) (line : ℕ) (low 
       go (no a) (no q) =
           let e : kind-at l m ≡ 3 = omega (arith, kind-within l h m inside) in
           rw (ne-eqb (kind-at l m) 1 a, ne-eqb (kind-at l m) 2 q) (same e (leb y capacity) refl)
+
+  pub put-in : kind-at l m ≤ 3 → first-at l m < length vs → (r : Next) (vs′ : List ℕ)
+      → Put (stored (kind-at l m) x y capacity) (line + 1) (first-at l m) vs r vs′
+      → Stepped (commands l) capacities line vs ps r vs′ ps
+  put-in small i r vs′ = go (stored (kind-at l m) x y capacity) (stores small i)
+    where
+      go : (s : Stored) → Stores s → Put s (line + 1) (first-at l m) vs r vs′ → Stepped (commands l) capacities line vs ps r vs′ ps
+      go (Stored.Value v) made put = rw (put .0, put .1) made
+      go Stored.Full made put = rw (put .0, put .1) made
 
   -- The lines of a pair, by tables that are filled
   module _ (ts es : List ℕ) (tables : Filled l ts es) where
@@ -354,7 +365,7 @@ module _ (l : List ℕ) (h : Holds l) (capacities : List ℕ) (line : ℕ) (low 
     unchanged : (n : ℕ) → Stepped (commands l) capacities line vs ps (N.At n) vs ps → Leads (record { line = n; left = left })
     unchanged n h = rw (set-getD ps d 0) h
 
-    pub leads : 3 < kind-at l m → d < length ps → Leads (led (kind-at l m) x left (line + 1) t)
+    leads : 3 < kind-at l m → d < length ps → Leads (led (kind-at l m) x left (line + 1) t)
     unfolding led
     leads pair b = go (ℕ-discrete (kind-at l m) 4) (ℕ-discrete (kind-at l m) 5) (ℕ-discrete (kind-at l m) 6) (ℕ-discrete x 0)
       where
@@ -374,3 +385,7 @@ module _ (l : List ℕ) (h : Holds l) (capacities : List ℕ) (line : ℕ) (low 
             let is : command-at l m ≡ closes while (first-at l m) =
             of-last-kind l m (λ e. omega arith) (λ e. omega arith) (λ e. omega arith) a q r in
             rw (ne-eqb (kind-at l m) 4 a, ne-eqb (kind-at l m) 5 q, ne-eqb (kind-at l m) 6 r) (unchanged t (while-back is))
+
+    pub led-on : 3 < kind-at l m → d < length ps → (r : ℕ) (ps′ : List ℕ) → Left ts es (kind-at l m) x line ps r ps′
+        → Stepped (commands l) capacities line vs ps (N.At r) vs ps′
+    led-on pair b r ps′ went = rw (went .to, went .passes) (leads pair b)

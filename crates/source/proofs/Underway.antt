@@ -16,7 +16,7 @@ use Rattle.theory.specs.declared.End.{End}
 use Rattle.theory.specs.declared.End.the-variants.{Halted, Spent, Full}
 use Rattle.theory.proofs.Budgets.{Underway, underway-start, underway-ended, underway-spent, underway-full, underway-step}
 use Rattle.theory.specs.ProgramText.{commands}
-use Rattle.source.specs.Answers.{stands}
+use Rattle.source_state.specs.Answers.{stands}
 use Rattle.source.specs.Lines.{Stepped, machine-of, run-at}
 use Rattle.source.specs.declared.steps.Next.the-variants as N
 

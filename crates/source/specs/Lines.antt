@@ -4,9 +4,9 @@ use mathlib.Core.Bool.{Bool, cond}
 use mathlib.Core.Option.{Option, none, some}
 use mathlib.Core.List.{List}
 use Prim.Native.Nat.{ℕ, suc, pred, _+_, _-_, _*_, _≤_, _<_}
-use lib.ListN.{length, getD}
+use lib.ListN.{length, getD, set}
 use lib.Dec.{eqb, ltb, leb}
-use Rattle.theory.specs.Limits.{most-capacity, state-values, state-passes}
+use Rattle.theory.specs.Limits.{most-lines, most-capacity, state-values, state-passes}
 use Rattle.theory.specs.Basics.{all-below}
 use Rattle.theory.specs.ProgramText.{Command, plain, clear, increment, copy, opens, closes, loop, while, list-of, variables, commands}
 use Rattle.theory.specs.ProgramText.{Opening}
@@ -15,10 +15,11 @@ use Rattle.theory.specs.Source as S
 use Rattle.theory.specs.Machines.{capacity-of, is-limited}
 use Rattle.theory.specs.TurnedDown.{is-passes}
 use Rattle.theory.specs.Claims.{Accepted}
-use Rattle.source.specs.Answers.{stands}
-use Rattle.source.specs.declared.steps.Stored.{Stored}
-use Rattle.source.specs.declared.steps.Stored.the-variants as Stored
-use Rattle.source.specs.declared.steps.Led.{Led}
+use Rattle.source_state.specs.Answers.{stands}
+use Rattle.source_state.specs.Numbers.{led, is-value-within, is-passes-within}
+use Rattle.source_state.specs.declared.step.Stored.{Stored}
+use Rattle.source_state.specs.declared.step.Stored.the-variants as Stored
+use Rattle.source_state.specs.declared.step.Led.{Led}
 use Rattle.source.specs.declared.steps.Next.{Next}
 use Rattle.source.specs.declared.steps.Next.the-variants as N
 use Rattle.source.specs.declared.steps.Stop.{Stop}
@@ -96,20 +97,35 @@ pub record Fits (l : List ℕ) (lines : ℕ) (table : List ℕ) : Type 0 where
 
 -- A step
 
--- What a plain command of kind k stores, by what its first variable holds and its second, and the capacity of the first
-unfoldable pub stored : ℕ → ℕ → ℕ → ℕ → Stored
-stored k held source capacity =
-    cond (eqb k 1) (Stored.Value 0)
-    (cond (eqb k 2) (cond (leb (suc held) capacity) (Stored.Value (held + 1)) Stored.Full)
-    (cond (leb source capacity) (Stored.Value source) Stored.Full))
+-- The values and capacities of a state, and two variables
+pub record Storing (vs capacities : List ℕ) (i j : ℕ) : Type 0 where
+  pub values-are : length vs ≡ state-values
+  pub capacities-are : length capacities ≡ state-values
+  pub first : i < state-values
+  pub second : j < state-values
 
--- Where a line of a pair of kind k leads, and the passes left then, by what its variable holds and the passes left before
-unfoldable pub led : ℕ → ℕ → ℕ → ℕ → ℕ → Led
-led k held left next target =
-    cond (eqb k 4) (cond (eqb held 0) (record { line = target; left = left }) (record { line = next; left = held }))
-    (cond (eqb k 5) (cond (leb left 1) (record { line = next; left = 0 }) (record { line = target; left = left - 1 }))
-    (cond (eqb k 6) (cond (eqb held 0) (record { line = target; left = left }) (record { line = next; left = left }))
-    (record { line = target; left = left })))
+-- It is stored in variable i, and the next line follows; or the step is full, and changes nothing
+abbrev pub Put : Stored → ℕ → ℕ → List ℕ → Next → List ℕ → Type 0
+Put (Stored.Value v) next i vs r vs′ = (r ≡ N.At next) × (vs′ ≡ set vs i v)
+Put Stored.Full next i vs r vs′ = (r ≡ N.Full) × (vs′ ≡ vs)
+
+-- The tables have a target and an entry for the line, and the entry is one of the passes-left
+pub record Leading (ps targets entries : List ℕ) (line : ℕ) : Type 0 where
+  pub low : 0 < line
+  pub high : line ≤ most-lines
+  pub target : line - 1 < length targets
+  pub entry : line - 1 < length entries
+  pub left : getD entries (line - 1) 0 < length ps
+  pub passes-are : length ps ≡ state-passes
+
+-- The line to which a line of a pair leads, and the passes left then, by the tables
+abbrev pub led-by : List ℕ → List ℕ → ℕ → ℕ → ℕ → List ℕ → Led
+led-by targets entries k held line ps =
+    led k held (getD ps (getD entries (line - 1) 0) 0) (line + 1) (getD targets (line - 1) 0)
+
+pub record Left (targets entries : List ℕ) (k held line : ℕ) (ps : List ℕ) (r : ℕ) (ps′ : List ℕ) : Type 0 where
+  pub to : r ≡ led-by targets entries k held line ps .line
+  pub passes : ps′ ≡ set ps (getD entries (line - 1) 0) (led-by targets entries k held line ps .left)
 
 -- The tables are filled, the line is one of the program, and the lists are those of a state
 pub record Ready (l targets entries capacities : List ℕ) (line : ℕ) (vs ps : List ℕ) : Type 0 where
@@ -164,13 +180,6 @@ abbrev pub outcome-of : Stop → List ℕ → List ℕ → Outcome S.State
 outcome-of r vs ps = record { end = r .end; steps = r .taken; state = stands (r .line) vs ps }
 
 -- Rule 9
-
--- A value by its variable's capacity, and an entry of the passes-left by the capacity of its loop's variable, of D loops
-abbrev pub is-value-within : ℕ → ℕ → ℕ → ℕ → Bool
-is-value-within capacity K i v = cond (ltb i K) (leb v capacity) (eqb v 0)
-
-abbrev pub is-passes-within : ℕ → ℕ → ℕ → ℕ → Bool
-is-passes-within capacity D d k = cond (ltb d D) (is-limited capacity k) (eqb k 0)
 
 unfoldable pub all-capacities : List ℕ → ℕ → Bool
 all-capacities cs K = all-below K (λ i. is-limited most-capacity (getD cs i 0))

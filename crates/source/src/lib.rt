@@ -1,20 +1,18 @@
 // The source interpreter of document 01 ("The program text", "Machines of the set"): a program, as text or as a list of three numbers a
 // command, run from a state with a budget. Rules 1 to 8 (3 to 8 for a list), then 9.
-mod answers; // answers.rt: the public types
 mod lines; // lines.rt: where the lines of pairs lead
 mod rule9; // rule9.rt: whether a state is one of the program's
 mod steps; // steps.rt: a step, and the steps of a run
 
-pub use answers::Ended;
-pub use answers::Run;
-pub use answers::State;
+pub use source_state::Ended;
+pub use source_state::Run;
+pub use source_state::State;
 ghost use mathlib.Core.Path.{_≡_};
 ghost use Prim.Native.Nat.{min};
 ghost use Rattle.theory.specs.TurnedDown.{read-text-under, read-list-under, run-from, run-program};
 ghost use Rattle.theory.specs.ProgramText.{commands};
-ghost use Rattle.source.specs.Answers.{source-state, HandsBack};
+ghost use Rattle.source_state.specs.Answers.{source-state, HandsBack};
 ghost use Rattle.source.specs.Lines.{Given};
-use crate::answers::refused;
 use program::Checked;
 use program::Program;
 use theory::Refusal;
@@ -25,6 +23,16 @@ const NONE_OF_ITS_STATES: Refusal = Refusal {
     number: 9,
     place: 0,
 };
+
+// A run that is refused.
+fn refused(state: State, refusal: Refusal) -> Run
+    ensures { λ r. ⌜ r ≡ record { state = state; ended = Ended.Refused refusal } ⌝ }
+{
+    Run {
+        state,
+        ended: Ended::Refused(refusal),
+    }
+}
 
 // The lesser of two numbers.
 fn least(a: u32, b: u32) -> u32

@@ -1,5 +1,7 @@
 // Rule 9: whether a state is one of a program's.
-use crate::answers::State;
+use source_state::State;
+use source_state::is_good_passes;
+use source_state::is_good_value;
 use command::ENDLOOP;
 use command::LOOP;
 ghost use mathlib.Core.Path.{_≡_};
@@ -11,8 +13,8 @@ ghost use Rattle.theory.specs.Source.{depth};
 ghost use Rattle.theory.specs.Machines.{is-limited};
 ghost use Rattle.theory.specs.TurnedDown.{is-source};
 ghost use Rattle.theory.specs.ProgramText.{commands};
-ghost use Rattle.source.specs.Answers.{source-state};
-ghost use Rattle.source.specs.Lines.{Given, Entered, is-value-within, is-passes-within, all-capacities, all-values, all-passes};
+ghost use Rattle.source_state.specs.Answers.{source-state};
+ghost use Rattle.source.specs.Lines.{Given, Entered, all-capacities, all-values, all-passes};
 ghost use Rattle.source.specs.Lines.{Deep, Bounding, Bounded, all-left};
 
 // Rule 9, of the capacities of so many variables.
@@ -34,13 +36,6 @@ fn are_capacities(capacities: &[u32], variables: usize) -> bool
     true
 }
 
-// Rule 9, of one value: within its variable's capacity, and 0 where the program names no such variable.
-fn is_good_value(v: u32, i: usize, capacity: u32, variables: usize) -> bool
-    ensures { λ r. ⌜ r ≡ is-value-within capacity variables i v ⌝ }
-{
-    if i < variables { v <= capacity } else { v == 0 }
-}
-
 // Rule 9, of every value.
 fn are_values(values: &[u32], capacities: &[u32], variables: usize) -> bool
     requires { ⌜ (length (now values) ≡ state-values) × (length (now capacities) ≡ state-values) ⌝ }
@@ -54,19 +49,6 @@ fn are_values(values: &[u32], capacities: &[u32], variables: usize) -> bool
         i += 1;
     }
     true
-}
-
-// Rule 9, of one entry of the passes-left: 1 to capacity for a loop around the line, 0 for any other.
-fn is_good_passes(k: u32, d: usize, capacity: u32, depth: usize) -> bool
-    ensures { λ r. ⌜ r ≡ is-passes-within capacity depth d k ⌝ }
-{
-    if depth <= d {
-        return k == 0;
-    }
-    if k < 1 {
-        return false;
-    }
-    k <= capacity
 }
 
 // Rule 9, of every entry of the passes-left, by the capacity for each.

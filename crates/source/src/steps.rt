@@ -1,26 +1,14 @@
 // A step at a line of a program, and the steps of a run.
-use command::CLEAR;
 use command::COPY;
-use command::ENDLOOP;
-use command::INCREMENT;
-use command::LOOP;
-use command::WHILE;
+use source_state::Stored;
+use source_state::lead;
+use source_state::store;
 use theory::End;
 ghost use mathlib.Core.Path.{_≡_};
-ghost use Rattle.source.specs.Lines.{stored, led, Ready, Stepped, Startable, run-at, outcome-of};
+ghost use lib.ListN.{getD};
+ghost use Rattle.source_state.specs.Numbers.{stored};
+ghost use Rattle.source.specs.Lines.{Storing, Put, Leading, Left, Ready, Stepped, Startable, run-at, outcome-of};
 ghost use Rattle.theory.specs.ProgramText.{commands};
-
-// What a plain command stores in its variable; or the step would be full.
-enum Stored {
-    Value(u32),
-    Full,
-}
-
-// The line after a step at a line of a pair, and the passes left then of the loop that the line opens or closes.
-struct Led {
-    line: u32,
-    left: u32,
-}
 
 // The line after a step; or the step would be full.
 enum Next {
@@ -35,68 +23,39 @@ pub struct Stop {
     pub end: End,
 }
 
-// A plain command, by what its variable holds, of a copy what the variable that is copied holds, and the capacity of the first.
-fn store(kind: u8, held: u32, source: u32, capacity: u32) -> Stored
-    ensures { λ r. ⌜ r ≡ stored kind held source capacity ⌝ }
+// Does a plain command on its variables: the next line, or full. A full step changes nothing.
+fn store_in(values: &mut [u32], capacities: &[u32], kind: u8, i: usize, j: usize, next: u32) -> Next
+    requires { ⌜ Storing (now values) (now capacities) i j ⌝ }
+    ensures { λ r. ⌜
+        Put (stored kind (getD (now (values .entry)) i 0) (getD (now (values .entry)) j 0) (getD (now (capacities .entry)) i 0))
+        next i (now (values .entry)) r (now (values .exit))
+        ⌝ }
 {
-    match kind {
-        CLEAR => Stored::Value(0),
-        INCREMENT => {
-            if held < capacity {
-                let more = held + 1;
-                Stored::Value(more)
-            } else {
-                Stored::Full
-            }
+    match store(kind, values[i], values[j], capacities[i]) {
+        Stored::Value(v) => {
+            values[i] = v;
+            Next::At(next)
         }
-        _ => {
-            if source <= capacity {
-                Stored::Value(source)
-            } else {
-                Stored::Full
-            }
-        }
+        Stored::Full => Next::Full,
     }
 }
 
-// A line of a pair, by what its variable holds and the passes left. A pass may change the loop's variable: what counts is the passes left.
-fn lead(kind: u8, held: u32, left: u32, next: u32, target: u32) -> Led
-    ensures { λ r. ⌜ r ≡ led kind held left next target ⌝ }
+// Does a line of a pair on its entry of the passes-left, by what its variable holds: the next line.
+fn lead_on(passes: &mut [u32], targets: &[u16], entries: &[u8], kind: u8, held: u32, line: u32) -> u32
+    requires { ⌜ Leading (now passes) (now targets) (now entries) line ⌝ }
+    ensures { λ r. ⌜
+        Left (now (targets .entry)) (now (entries .entry)) kind held line (now (passes .entry)) r (now (passes .exit))
+        ⌝ }
 {
-    match kind {
-        LOOP => {
-            if held == 0 {
-                return Led { line: target, left };
-            }
-            Led {
-                line: next,
-                left: held,
-            }
-        }
-        ENDLOOP => {
-            if left <= 1 {
-                return Led {
-                    line: next,
-                    left: 0,
-                };
-            }
-            let fewer = left - 1;
-            Led {
-                line: target,
-                left: fewer,
-            }
-        }
-        WHILE => {
-            if held == 0 {
-                return Led { line: target, left };
-            }
-            Led { line: next, left }
-        }
-        _ => Led { line: target, left },
-    }
+    let here = line as usize - 1;
+    let target = targets[here] as u32;
+    let d = entries[here] as usize;
+    let led = lead(kind, held, passes[d], line + 1, target);
+    passes[d] = led.left;
+    led.line
 }
 
-// A step at a line of the program: the next line, or full. A full step changes nothing.
+// A step at a line of the program: the next line, or full.
 fn step(
     list: &[u8],
     targets: &[u16],
@@ -112,27 +71,14 @@ fn step(
         (now (values .entry)) (now (passes .entry)) r (now (values .exit)) (now (passes .exit))
         ⌝ }
 {
-    let here = line as usize - 1;
-    let next = line + 1;
-    let kind = list[3 * here];
-    let i = list[3 * here + 1] as usize;
-    let held = values[i];
+    let at = 3 * (line as usize - 1);
+    let kind = list[at];
+    let i = list[at + 1] as usize;
     if kind <= COPY {
-        let j = list[3 * here + 2] as usize;
-        let source = values[j];
-        return match store(kind, held, source, capacities[i]) {
-            Stored::Value(v) => {
-                values[i] = v;
-                Next::At(next)
-            }
-            Stored::Full => Next::Full,
-        };
+        let j = list[at + 2] as usize;
+        return store_in(values, capacities, kind, i, j, line + 1);
     }
-    let target = targets[here] as u32;
-    let d = entries[here] as usize;
-    let led = lead(kind, held, passes[d], next, target);
-    passes[d] = led.left;
-    Next::At(led.line)
+    Next::At(lead_on(passes, targets, entries, kind, values[i], line))
 }
 
 // Steps until the line after the last, until so many are taken, or until one is full.

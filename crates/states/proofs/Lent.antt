@@ -14,9 +14,9 @@ use Rattle.theory.specs.Source as S
 use Rattle.theory.specs.Machines.{SourceState, is-limited}
 use Rattle.theory.specs.TurnedDown.{Answer, done, refused, after, rule-9, are-capacities, is-source, run-from}
 use Rattle.theory.proofs.GoodMemory.{length-cells}
-use Rattle.source.specs.Answers.{HandsBack, source-state, ended-by, state-by, moved-by}
-use Rattle.source.specs.declared.answers.State.{State}
-use Rattle.source.specs.declared.answers.Run.{Run}
+use Rattle.source_state.specs.Answers.{HandsBack, source-state, ended-by, state-by, moved-by}
+use Rattle.source_state.specs.declared.State.{State}
+use Rattle.source_state.specs.declared.Run.{Run}
 use Rattle.states.specs.Numbers.{state-numbers, state-of, numbers-of, run-numbers, numbers-by, RunsLent}
 use Rattle.states.specs.Numbers.{no-state, lent-state, kept-numbers}
 use Rattle.states.proofs.Parts.{part-length, parts}

@@ -10,9 +10,9 @@ use Rattle.theory.specs.ProgramText.{Command}
 use Rattle.theory.specs.Runs.{Outcome}
 use Rattle.theory.specs.Source as S
 use Rattle.theory.specs.TurnedDown.{Answer, done, refused, after, run-from}
-use Rattle.source.specs.Answers.{source-state, ended-by, state-by, moved-by}
-use Rattle.source.specs.declared.answers.State.{State}
-use Rattle.source.specs.declared.answers.Ended.{Ended}
+use Rattle.source_state.specs.Answers.{source-state, ended-by, state-by, moved-by}
+use Rattle.source_state.specs.declared.State.{State}
+use Rattle.source_state.specs.declared.Ended.{Ended}
 
 abbrev pub state-numbers : ℕ
 state-numbers = 82

@@ -5,8 +5,8 @@ use lib.ListN.{length}
 use borrow.Author.Needs.{needs}
 use Rattle.theory.specs.TurnedDown.{after, read-list, run-from}
 use Rattle.theory.specs.RunTool.{word-on}
-use Rattle.source.specs.Answers.{source-state, fresh-state, HandsBack}
-use Rattle.source.specs.declared.answers.State.{State}
+use Rattle.source_state.specs.Answers.{source-state, fresh-state, HandsBack}
+use Rattle.source_state.specs.declared.State.{State}
 use Rattle.report.specs.Rows.{ended-of}
 use Rattle.report.proofs.Values.{cut-length, cut-values, cut-starts}
 use Rattle.report.proofs.Called.{row-ran}

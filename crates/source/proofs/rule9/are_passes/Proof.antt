@@ -6,7 +6,8 @@ use native.Mathlib.Omega.{arith}
 use borrow.Author.Tests.{not-true, not-false}
 use lib.ListN.{getD}
 use Rattle.theory.specs.Basics.{all-below}
-use Rattle.source.specs.Lines.{is-passes-within, all-passes}
+use Rattle.source_state.specs.Numbers.{is-passes-within}
+use Rattle.source.specs.Lines.{all-passes}
 use Rattle.theory.proofs.GoodMemory.{all-below-fails}
 use Rattle.source.proofs.Checks.{all-one-more}
 use Rattle.source.proofs.rule9.are_passes.Statement.{statement}

@@ -6,7 +6,8 @@ use native.Mathlib.Omega.{arith}
 use borrow.Author.Tests.{not-true, not-false}
 use lib.ListN.{getD}
 use Rattle.theory.specs.Basics.{all-below}
-use Rattle.source.specs.Lines.{is-value-within, all-values}
+use Rattle.source_state.specs.Numbers.{is-value-within}
+use Rattle.source.specs.Lines.{all-values}
 use Rattle.theory.proofs.GoodMemory.{all-below-fails}
 use Rattle.source.proofs.Checks.{all-one-more}
 use Rattle.source.proofs.rule9.are_values.Statement.{statement}

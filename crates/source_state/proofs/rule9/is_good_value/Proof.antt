@@ -1,7 +1,7 @@
 -- `is_good_value` is rule 9's test of a value. Assumes nothing.
-use Rattle.source.proofs.Checks.{named-value, unnamed-value}
-use Rattle.source.proofs.rule9.is_good_value.Statement.{statement}
-use Rattle.source.proofs.rule9.is_good_value.Tie as tie
+use Rattle.source_state.proofs.Checks.{named-value, unnamed-value}
+use Rattle.source_state.proofs.rule9.is_good_value.Statement.{statement}
+use Rattle.source_state.proofs.rule9.is_good_value.Tie as tie
 
 returns : tie.Need-returns
 returns c = let a : _ = c .before .args in named-value (a .capacity) (a .variables) (a .i) (a .v) (c .if1 .taken)

@@ -1,9 +1,9 @@
 -- `lead` leads where the definition says, by the kind and one test. Assumes nothing.
 use borrow.Author.Needs.{needs}
 use borrow.Author.Tests.{le-leb, lt-leb, ne-eqb}
-use Rattle.source.specs.Lines.{led}
-use Rattle.source.proofs.steps.lead.Statement.{statement}
-use Rattle.source.proofs.steps.lead.Tie as tie
+use Rattle.source_state.specs.Numbers.{led}
+use Rattle.source_state.proofs.step.lead.Statement.{statement}
+use Rattle.source_state.proofs.step.lead.Tie as tie
 
 returns : tie.Need-returns
 unfolding led

@@ -9,10 +9,10 @@ use Rattle.theory.specs.Runs.{Outcome}
 use Rattle.theory.specs.Source as S
 use Rattle.theory.specs.Machines.{SourceState, fresh-source}
 use Rattle.theory.specs.TurnedDown.{Answer, done, refused}
-use Rattle.source.specs.declared.answers.State.{State}
-use Rattle.source.specs.declared.answers.Run.{Run}
-use Rattle.source.specs.declared.answers.Ended.{Ended}
-use Rattle.source.specs.declared.answers.Ended.the-variants as E
+use Rattle.source_state.specs.declared.State.{State}
+use Rattle.source_state.specs.declared.Run.{Run}
+use Rattle.source_state.specs.declared.Ended.{Ended}
+use Rattle.source_state.specs.declared.Ended.the-variants as E
 
 -- A line, values and passes left, as the definitions have them: past the end of a list stands 0
 abbrev pub stands : ℕ → List ℕ → List ℕ → S.State

@@ -1,6 +1,15 @@
-// The types that this crate's entries take and hand back, with the limits and the fresh state.
-ghost use mathlib.Core.Path.{_≡_};
-ghost use Rattle.source.specs.Answers.{Fresh};
+// The state of a source and what a run of one hands back, as types with their limits (document 01, "Machines of the set"); the fresh state;
+// what a step does to the numbers of a state, and rule 9 of each of them.
+mod rule9; // rule9.rt: rule 9 of one number
+mod step; // step.rt: what a step does, by numbers
+
+pub use rule9::is_good_passes;
+pub use rule9::is_good_value;
+pub use step::Led;
+pub use step::Stored;
+pub use step::lead;
+pub use step::store;
+ghost use Rattle.source_state.specs.Answers.{Fresh};
 use theory::End;
 use theory::Refusal;
 
@@ -49,14 +58,4 @@ pub enum Ended {
 pub struct Run {
     pub state: State,
     pub ended: Ended,
-}
-
-// A run that is refused.
-pub fn refused(state: State, refusal: Refusal) -> Run
-    ensures { λ r. ⌜ r ≡ record { state = state; ended = Ended.Refused refusal } ⌝ }
-{
-    Run {
-        state,
-        ended: Ended::Refused(refusal),
-    }
 }

@@ -1,7 +1,7 @@
 -- `is_good_passes` is rule 9's test of an entry of the passes-left. Assumes nothing.
-use Rattle.source.proofs.Checks.{other-passes, no-passes, some-passes}
-use Rattle.source.proofs.rule9.is_good_passes.Statement.{statement}
-use Rattle.source.proofs.rule9.is_good_passes.Tie as tie
+use Rattle.source_state.proofs.Checks.{other-passes, no-passes, some-passes}
+use Rattle.source_state.proofs.rule9.is_good_passes.Statement.{statement}
+use Rattle.source_state.proofs.rule9.is_good_passes.Tie as tie
 
 returns : tie.Need-returns
 returns c = let a : _ = c .before .args in other-passes (a .capacity) (a .depth) (a .d) (a .k) (c .if1 .taken)

@@ -3,9 +3,9 @@ use native.Mathlib.Omega.{arith}
 use borrow.Author.Needs.{needs}
 use borrow.Author.Tests.{le-leb, lt-leb, ne-eqb}
 use Prim.Native.Nat.{suc}
-use Rattle.source.specs.Lines.{stored}
-use Rattle.source.proofs.steps.store.Statement.{statement}
-use Rattle.source.proofs.steps.store.Tie as tie
+use Rattle.source_state.specs.Numbers.{stored}
+use Rattle.source_state.proofs.step.store.Statement.{statement}
+use Rattle.source_state.proofs.step.store.Tie as tie
 
 add-more : tie.Need-add-more
 add-more c = search needs
