@@ -10,7 +10,7 @@ use Rattle.records.specs.declared.Numbers.{Numbers}
 use Rattle.word.specs.Answers.{entry-of, entries-of}
 use Rattle.records.specs.Records.{numbers-of}
 use Rattle.word.proofs.Fills.{put-first, put-none, put-length, put-next}
-use Rattle.records.proofs.Tallies.{no-record}
+use Rattle.record_counting.proofs.Tallies.{no-record}
 
 abbrev pub kind-in : Entry → ℕ
 kind-in e = e .kind

@@ -1,20 +1,12 @@
--- What this crate's entries hand back, by the definitions of crate theory.
-use mathlib.Core.Path.{_≡_}
+-- What `gather` hands back, by the definitions of crate theory.
 use mathlib.Core.List.{List}
 use Prim.Native.Nat.{ℕ}
 use lib.ListN.{replicate}
 use Rattle.theory.specs.Limits
 use Rattle.theory.specs.Word.{Entry}
-use Rattle.theory.specs.TurnedDown.{mapped, read-word, read-table, lend, lent-after}
-use Rattle.word.specs.declared.answers.Instruction.{Instruction}
-use Rattle.word.specs.declared.answers.Read.{Read}
-use Rattle.word.specs.Answers.{kinds-of, operands-of, records-of, read-answer}
+use Rattle.theory.specs.TurnedDown.{mapped, read-table, lent-after}
+use Rattle.word.specs.Answers.{kinds-of, operands-of, read-answer}
 use Rattle.records.specs.declared.Gathered.{Gathered}
-
--- A word read into a lent table of records: rules 11 to 14, then 19
-abbrev pub ReadsTable : (word : List ℕ) (table : List Instruction) → Read → (table′ : List Instruction) → Type 0
-ReadsTable word table r table′ =
-    (r ≡ read-answer (lend table (read-word word))) × (table′ ≡ lent-after table (mapped records-of (lend table (read-word word))))
 
 -- A table as numbers, with room for as many instructions as a word may have: rules 11, 13 and 14 as for tables
 abbrev pub no-numbers : List ℕ

@@ -56,8 +56,8 @@ use Rattle.word.proofs.answers.Instruction as T
 use Rattle.word.proofs.answers.Instruction.Laws as T′
 use Rattle.records.proofs.Numbers as N
 use Rattle.records.proofs.Numbers.Laws as N′
-use Rattle.records.proofs.Turns as turns
-use Rattle.records.proofs.Tallies.{no-record}
+use Rattle.record_counting.proofs.Turns as turns
+use Rattle.record_counting.proofs.Tallies.{no-record}
 use Rattle.records.proofs.Copies.{kind-in, operand-in, copied-at, copied-none, copied-length, copied-next, numbers-end, same}
 use Rattle.records.proofs.copied.Key.{name as #copied}
 use Rattle.records.proofs.copied as f

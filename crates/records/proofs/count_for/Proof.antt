@@ -1,6 +1,7 @@
 -- `count_for` meets its contract: the count of what `judge` answers.
 use mathlib.Core.Path.{ap, _∙_}
-use Rattle.records.specs.Records.{answer-count, judged-count}
+use Rattle.record_counting.specs.Counted.{answer-count}
+use Rattle.records.specs.Records.{judged-count}
 use borrow.Author.Needs.{needs}
 use Rattle.records.proofs.count_for.Statement.{statement}
 use Rattle.records.proofs.count_for.Tie as tie

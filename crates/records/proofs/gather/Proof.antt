@@ -58,10 +58,10 @@ use Rattle.records.proofs.Numbers as N
 use Rattle.records.proofs.Numbers.Laws as N′
 use Rattle.tally.proofs.Tally as K
 use Rattle.tally.proofs.Tally.Laws as K′
-use Rattle.records.proofs.count_table as count-table
-use Rattle.records.proofs.count_table.Symbol as count-table-def
-use Rattle.records.proofs.count_table.Symbol.{name as #count-table}
-use Rattle.records.proofs.count_table.Met as count-table-thm
+use Rattle.record_counting.proofs.count_table as count-table
+use Rattle.record_counting.proofs.count_table.Symbol as count-table-def
+use Rattle.record_counting.proofs.count_table.Symbol.{name as #count-table}
+use Rattle.record_counting.proofs.count_table.Met as count-table-thm
 use Rattle.records.proofs.count_for as count-for
 use Rattle.records.proofs.count_for.Symbol as count-for-def
 use Rattle.records.proofs.count_for.Symbol.{name as #count-for}
@@ -299,7 +299,7 @@ gather-spec 𝓤 H 𝓜 𝓖 𝓡 =
     (tables 𝓤 H 𝓜 𝓡 code.env .C) (tables 𝓤 H 𝓜 𝓡 code.env .Λ) #gather code.function (code.unfolded 𝓤 H 𝓜 𝓡)
     (gather-meets 𝓤 H (𝓖 .A) (givenOf 𝓤 H 𝓜 𝓖) (𝓜 .mem) (𝓡 .run) (tablesOf 𝓤 H 𝓜 (tables 𝓤 H 𝓜 𝓡 code.env))
     (cited 𝓤 H (CountTable 𝓤 H (𝓖 .A) (𝓜 .mem) (𝓡 .run)) 𝓜 𝓡 code.env #count-table count-table-def.routine
-    code.calls-records·count-table (count-table-thm.met 𝓤 H 𝓜 𝓖 𝓡))
+    code.calls-record-counting·count-table (count-table-thm.met 𝓤 H 𝓜 𝓖 𝓡))
     (cited 𝓤 H (CountFor 𝓤 H (𝓖 .A) (𝓜 .mem) (𝓡 .run)) 𝓜 𝓡 code.env #count-for count-for-def.routine code.calls-records·count-for
     (count-for-thm.met 𝓤 H 𝓜 𝓖 𝓡))
     (cited 𝓤 H (Copied 𝓤 H (𝓖 .A) (𝓜 .mem) (𝓡 .run)) 𝓜 𝓡 code.env #copied copied-def.routine code.calls-records·copied

@@ -45,26 +45,27 @@ use Rattle.word.proofs.answers.Instruction as T
 use base.Logic.{via, fst∗, emp}
 use Rattle.word.specs.declared.answers.Read.{Read}
 use Rattle.word.specs.Answers.{read-answer}
-use Rattle.records.specs.Records.{answer-count, measured, Storable, stored}
-use Rattle.records.proofs.Stores.{storable, reads-table}
+use Rattle.record_counting.specs.Counted.{answer-count}
+use Rattle.record_reading.specs.Storing.{measured, Storable, stored}
+use Rattle.record_reading.proofs.Stores.{storable, reads-table}
 use Rattle.word.proofs.answers.Read as E
 use Rattle.word.proofs.answers.Read.Laws as E′
-use Rattle.records.proofs.count_of as count-of
-use Rattle.records.proofs.count_of.Symbol as count-of-def
-use Rattle.records.proofs.count_of.Symbol.{name as #count-of}
-use Rattle.records.proofs.count_of.Met as count-of-thm
-use Rattle.records.proofs.measure_for as measure
-use Rattle.records.proofs.measure_for.Symbol as measure-def
-use Rattle.records.proofs.measure_for.Symbol.{name as #measure-for}
-use Rattle.records.proofs.measure_for.Met as measure-thm
-use Rattle.records.proofs.store as stores
-use Rattle.records.proofs.store.Symbol as store-def
-use Rattle.records.proofs.store.Symbol.{name as #store}
-use Rattle.records.proofs.store.Met as store-thm
-use Rattle.records.proofs.read_table.Key.{name as #read-table}
-use Rattle.records.proofs.read_table as f
-use Rattle.records.proofs.read_table.Statement as stated
-use Rattle.records.proofs.read_table.Code as code
+use Rattle.record_counting.proofs.count_of as count-of
+use Rattle.record_counting.proofs.count_of.Symbol as count-of-def
+use Rattle.record_counting.proofs.count_of.Symbol.{name as #count-of}
+use Rattle.record_counting.proofs.count_of.Met as count-of-thm
+use Rattle.record_reading.proofs.measure_for as measure
+use Rattle.record_reading.proofs.measure_for.Symbol as measure-def
+use Rattle.record_reading.proofs.measure_for.Symbol.{name as #measure-for}
+use Rattle.record_reading.proofs.measure_for.Met as measure-thm
+use Rattle.record_reading.proofs.store as stores
+use Rattle.record_reading.proofs.store.Symbol as store-def
+use Rattle.record_reading.proofs.store.Symbol.{name as #store}
+use Rattle.record_reading.proofs.store.Met as store-thm
+use Rattle.record_reading.proofs.read_table.Key.{name as #read-table}
+use Rattle.record_reading.proofs.read_table as f
+use Rattle.record_reading.proofs.read_table.Statement as stated
+use Rattle.record_reading.proofs.read_table.Code as code
 
 abbrev the-one : List Val → Val
 the-one [] = vunit
@@ -303,9 +304,9 @@ read-table-spec 𝓤 H 𝓜 𝓖 𝓡 =
     entered 𝓤 H (tripleOf 𝓤 H (𝓖 .A) f.signature (f.spec 𝓤 H (𝓖 .A) (𝓜 .mem) (𝓡 .run)))
     (tables 𝓤 H 𝓜 𝓡 code.env .C) (tables 𝓤 H 𝓜 𝓡 code.env .Λ) #read-table code.function (code.unfolded 𝓤 H 𝓜 𝓡)
     (read-table-meets 𝓤 H (𝓖 .A) (givenOf 𝓤 H 𝓜 𝓖) (𝓜 .mem) (𝓡 .run) (tablesOf 𝓤 H 𝓜 (tables 𝓤 H 𝓜 𝓡 code.env))
-    (cited 𝓤 H (Measure 𝓤 H (𝓖 .A) (𝓜 .mem) (𝓡 .run)) 𝓜 𝓡 code.env #measure-for measure-def.routine code.calls-records·measure-for
+    (cited 𝓤 H (Measure 𝓤 H (𝓖 .A) (𝓜 .mem) (𝓡 .run)) 𝓜 𝓡 code.env #measure-for measure-def.routine code.calls-record-reading·measure-for
     (measure-thm.met 𝓤 H 𝓜 𝓖 𝓡))
-    (cited 𝓤 H (CountOf 𝓤 H (𝓖 .A) (𝓜 .mem) (𝓡 .run)) 𝓜 𝓡 code.env #count-of count-of-def.routine code.calls-records·count-of
+    (cited 𝓤 H (CountOf 𝓤 H (𝓖 .A) (𝓜 .mem) (𝓡 .run)) 𝓜 𝓡 code.env #count-of count-of-def.routine code.calls-record-counting·count-of
     (count-of-thm.met 𝓤 H 𝓜 𝓖 𝓡))
-    (cited 𝓤 H (Store 𝓤 H (𝓖 .A) (𝓜 .mem) (𝓡 .run)) 𝓜 𝓡 code.env #store store-def.routine code.calls-records·store (store-thm.met 𝓤
+    (cited 𝓤 H (Store 𝓤 H (𝓖 .A) (𝓜 .mem) (𝓡 .run)) 𝓜 𝓡 code.env #store store-def.routine code.calls-record-reading·store (store-thm.met 𝓤
     H 𝓜 𝓖 𝓡)))

@@ -12,7 +12,7 @@ use Rattle.word.specs.declared.answers.Instruction.{Instruction}
 use Rattle.tally.specs.declared.Tally.{Tally}
 use Rattle.word.specs.Answers.{entry-of, entries-of}
 use Rattle.tally.specs.Tallies.{longest, tally-of, noted}
-use Rattle.records.specs.Records.{no-tally}
+use Rattle.record_counting.specs.Counted.{no-tally}
 use Rattle.tally.proofs.Counts.{tally-none, tally-more}
 
 abbrev pub no-record : Instruction

@@ -55,9 +55,9 @@ use denote.Exit.{yes}
 use Rattle.word.specs.declared.answers.Instruction.{Instruction}
 use Rattle.word.specs.declared.answers.Item as ItemT
 use Rattle.word.specs.Scan.{item-at as item-of}
-use Rattle.records.specs.Records.{Storable, stored}
-use Rattle.records.proofs.Turns as turns
-use Rattle.records.proofs.Stores.{start, record-in, start-none, stored-none, stored-length, stored-more, start-more}
+use Rattle.record_reading.specs.Storing.{Storable, stored}
+use Rattle.record_counting.proofs.Turns as turns
+use Rattle.record_reading.proofs.Stores.{start, record-in, start-none, stored-none, stored-length, stored-more, start-more}
 use Rattle.word.proofs.answers.Instruction as T
 use Rattle.word.proofs.answers.Instruction.Laws as T′
 use Rattle.word.proofs.answers.Item as I
@@ -66,11 +66,11 @@ use Rattle.word.proofs.item_at as item-at
 use Rattle.word.proofs.item_at.Symbol as item-at-def
 use Rattle.word.proofs.item_at.Symbol.{name as #item-at}
 use Rattle.word.proofs.item_at.Met as item-at-thm
-use Rattle.records.proofs.store.Key.{name as #store}
-use Rattle.records.proofs.store as f
-use Rattle.records.proofs.store.Statement as stated
-use Rattle.records.proofs.store.Code as code
-use Rattle.records.proofs.store.Code.Mir as code-mir
+use Rattle.record_reading.proofs.store.Key.{name as #store}
+use Rattle.record_reading.proofs.store as f
+use Rattle.record_reading.proofs.store.Statement as stated
+use Rattle.record_reading.proofs.store.Code as code
+use Rattle.record_reading.proofs.store.Code.Mir as code-mir
 
 abbrev the-one : List Val → Val
 the-one [] = vunit

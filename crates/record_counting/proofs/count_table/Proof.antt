@@ -54,26 +54,26 @@ use Rattle.word.specs.declared.answers.Instruction.{Instruction}
 use Rattle.tally.specs.declared.Tally.{Tally}
 use Rattle.word.specs.Answers.{entry-of}
 use Rattle.tally.specs.Tallies.{longest, noted}
-use Rattle.records.specs.Records.{no-tally}
-use Rattle.records.proofs.Turns as turns
-use Rattle.records.proofs.Tallies.{no-record, tally-at, tally-start, tally-end, tally-next}
+use Rattle.record_counting.specs.Counted.{no-tally}
+use Rattle.record_counting.proofs.Turns as turns
+use Rattle.record_counting.proofs.Tallies.{no-record, tally-at, tally-start, tally-end, tally-next}
 use Rattle.word.proofs.answers.Instruction as T
 use Rattle.word.proofs.answers.Instruction.Laws as T′
 use Rattle.tally.proofs.Tally as K
 use Rattle.tally.proofs.Tally.Laws as K′
-use Rattle.records.proofs.empty_tally as empty
-use Rattle.records.proofs.empty_tally.Symbol as empty-def
-use Rattle.records.proofs.empty_tally.Symbol.{name as #empty-tally}
-use Rattle.records.proofs.empty_tally.Met as empty-thm
+use Rattle.record_counting.proofs.empty_tally as empty
+use Rattle.record_counting.proofs.empty_tally.Symbol as empty-def
+use Rattle.record_counting.proofs.empty_tally.Symbol.{name as #empty-tally}
+use Rattle.record_counting.proofs.empty_tally.Met as empty-thm
 use Rattle.tally.proofs.with_entry as with-entry
 use Rattle.tally.proofs.with_entry.Symbol as with-entry-def
 use Rattle.tally.proofs.with_entry.Symbol.{name as #with-entry}
 use Rattle.tally.proofs.with_entry.Met as with-entry-thm
-use Rattle.records.proofs.count_table.Key.{name as #count-table}
-use Rattle.records.proofs.count_table as f
-use Rattle.records.proofs.count_table.Statement as stated
-use Rattle.records.proofs.count_table.Code as code
-use Rattle.records.proofs.count_table.Code.Mir as code-mir
+use Rattle.record_counting.proofs.count_table.Key.{name as #count-table}
+use Rattle.record_counting.proofs.count_table as f
+use Rattle.record_counting.proofs.count_table.Statement as stated
+use Rattle.record_counting.proofs.count_table.Code as code
+use Rattle.record_counting.proofs.count_table.Code.Mir as code-mir
 
 abbrev the-one : List Val → Val
 the-one [] = vunit
@@ -341,7 +341,7 @@ count-table-spec 𝓤 H 𝓜 𝓖 𝓡 =
     entered 𝓤 H (tripleOf 𝓤 H (𝓖 .A) f.signature (f.spec 𝓤 H (𝓖 .A) (𝓜 .mem) (𝓡 .run)))
     (tables 𝓤 H 𝓜 𝓡 code.env .C) (tables 𝓤 H 𝓜 𝓡 code.env .Λ) #count-table code.function (code.unfolded 𝓤 H 𝓜 𝓡)
     (count-table-meets 𝓤 H (𝓖 .A) (givenOf 𝓤 H 𝓜 𝓖) (𝓜 .mem) (𝓡 .run) (tablesOf 𝓤 H 𝓜 (tables 𝓤 H 𝓜 𝓡 code.env))
-    (cited 𝓤 H (Empty 𝓤 H (𝓖 .A) (𝓜 .mem) (𝓡 .run)) 𝓜 𝓡 code.env #empty-tally empty-def.routine code.calls-records·empty-tally
+    (cited 𝓤 H (Empty 𝓤 H (𝓖 .A) (𝓜 .mem) (𝓡 .run)) 𝓜 𝓡 code.env #empty-tally empty-def.routine code.calls-record-counting·empty-tally
     (empty-thm.met 𝓤 H 𝓜 𝓖 𝓡))
     (cited 𝓤 H (With 𝓤 H (𝓖 .A) (𝓜 .mem) (𝓡 .run)) 𝓜 𝓡 code.env #with-entry with-entry-def.routine code.calls-tally·with-entry
     (with-entry-thm.met 𝓤 H 𝓜 𝓖 𝓡)))

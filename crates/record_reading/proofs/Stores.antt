@@ -17,9 +17,10 @@ use Rattle.word.specs.declared.answers.Read.{Read}
 use Rattle.word.specs.declared.answers.Read.the-variants.{Done, Refused}
 use Rattle.word.specs.declared.answers.Item.{Item}
 use Rattle.word.specs.Answers.{record-of, records-of, read-answer}
-use Rattle.records.specs.Answers.{ReadsTable}
+use Rattle.record_reading.specs.Answers.{ReadsTable}
 use Rattle.word.specs.Scan.{item-at}
-use Rattle.records.specs.Records.{answer-count, measured, Storable, stored}
+use Rattle.record_counting.specs.Counted.{answer-count}
+use Rattle.record_reading.specs.Storing.{measured, Storable, stored}
 use Rattle.word.proofs.Along.{Along, along-start}
 use Rattle.word.proofs.Fills.{put-none, put-length, put-next, put-all, item-kind, item-operand, item-along}
 

@@ -55,21 +55,21 @@ use denote.Exit.{yes}
 use Rattle.word.specs.declared.answers.Instruction.{Instruction}
 use Rattle.word.specs.Answers.{entry-of}
 use Rattle.instruction.specs.Instructions.{Spelt}
-use Rattle.records.proofs.Turns as turns
-use Rattle.records.proofs.Relent.{Waiting, lends-on, comes-back}
-use Rattle.records.proofs.Tallies.{no-record}
-use Rattle.records.proofs.Writes.{Spelling, spelling-none, spelling-length, spelling-more, spelling-end}
+use Rattle.record_counting.proofs.Turns as turns
+use Rattle.record_writing.proofs.Relent.{Waiting, lends-on, comes-back}
+use Rattle.record_counting.proofs.Tallies.{no-record}
+use Rattle.record_writing.proofs.Writes.{Spelling, spelling-none, spelling-length, spelling-more, spelling-end}
 use Rattle.word.proofs.answers.Instruction as T
 use Rattle.word.proofs.answers.Instruction.Laws as T′
-use Rattle.records.proofs.put_record as put-record
-use Rattle.records.proofs.put_record.Symbol as put-record-def
-use Rattle.records.proofs.put_record.Symbol.{name as #put-record}
-use Rattle.records.proofs.put_record.Met as put-record-thm
-use Rattle.records.proofs.spell.Key.{name as #spell}
-use Rattle.records.proofs.spell as f
-use Rattle.records.proofs.spell.Statement as stated
-use Rattle.records.proofs.spell.Code as code
-use Rattle.records.proofs.spell.Code.Mir as code-mir
+use Rattle.record_writing.proofs.put_record as put-record
+use Rattle.record_writing.proofs.put_record.Symbol as put-record-def
+use Rattle.record_writing.proofs.put_record.Symbol.{name as #put-record}
+use Rattle.record_writing.proofs.put_record.Met as put-record-thm
+use Rattle.record_writing.proofs.spell.Key.{name as #spell}
+use Rattle.record_writing.proofs.spell as f
+use Rattle.record_writing.proofs.spell.Statement as stated
+use Rattle.record_writing.proofs.spell.Code as code
+use Rattle.record_writing.proofs.spell.Code.Mir as code-mir
 
 abbrev the-one : List Val → Val
 the-one [] = vunit
@@ -351,5 +351,5 @@ spell-spec 𝓤 H 𝓜 𝓖 𝓡 =
     entered 𝓤 H (tripleOf 𝓤 H (𝓖 .A) f.signature (f.spec 𝓤 H (𝓖 .A) (𝓜 .mem) (𝓡 .run)))
     (tables 𝓤 H 𝓜 𝓡 code.env .C) (tables 𝓤 H 𝓜 𝓡 code.env .Λ) #spell code.function (code.unfolded 𝓤 H 𝓜 𝓡)
     (spell-meets 𝓤 H (𝓖 .A) (givenOf 𝓤 H 𝓜 𝓖) (𝓜 .mem) (𝓡 .run) (tablesOf 𝓤 H 𝓜 (tables 𝓤 H 𝓜 𝓡 code.env))
-    (cited 𝓤 H (PutRecord 𝓤 H (𝓖 .A) (𝓜 .mem) (𝓡 .run)) 𝓜 𝓡 code.env #put-record put-record-def.routine code.calls-records·put-record
+    (cited 𝓤 H (PutRecord 𝓤 H (𝓖 .A) (𝓜 .mem) (𝓡 .run)) 𝓜 𝓡 code.env #put-record put-record-def.routine code.calls-record-writing·put-record
     (put-record-thm.met 𝓤 H 𝓜 𝓖 𝓡)))

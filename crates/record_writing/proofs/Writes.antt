@@ -19,8 +19,8 @@ use Rattle.word.specs.Answers.{entry-of, entries-of, WritesInto}
 use Rattle.tally.specs.declared.Tally.{Tally}
 use Rattle.tally.specs.Tallies.{tally-of, answered}
 use Rattle.tally.proofs.Spelling.{wrote, left}
-use Rattle.records.specs.Records.{written-count}
-use Rattle.records.proofs.Tallies.{no-record}
+use Rattle.record_writing.specs.Written.{written-count}
+use Rattle.record_counting.proofs.Tallies.{no-record}
 
 -- The first j records of a table were put at the start of a word, up to a place
 pub record Spelling (table : List Instruction) (j : ℕ) (before after : Bytes) (at : ℕ) : Type 0 where

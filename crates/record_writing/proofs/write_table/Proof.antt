@@ -68,33 +68,33 @@ use Rattle.word.specs.declared.answers.Written.{Written}
 use Rattle.word.specs.Answers.{entries-of, WritesInto}
 use Rattle.tally.specs.declared.Tally.{Tally}
 use Rattle.tally.specs.Tallies.{tally-of, answered}
-use Rattle.records.specs.Records.{written-count}
-use Rattle.records.proofs.Writes.{count-within, writes-table}
+use Rattle.record_writing.specs.Written.{written-count}
+use Rattle.record_writing.proofs.Writes.{count-within, writes-table}
 use Rattle.word.proofs.answers.Instruction as T
 use Rattle.word.proofs.answers.Written as E
 use Rattle.word.proofs.answers.Written.Laws as E′
 use Rattle.tally.proofs.Tally as K
 use Rattle.tally.proofs.Tally.Laws as K′
-use Rattle.records.proofs.count_table as count-table
-use Rattle.records.proofs.count_table.Symbol as count-table-def
-use Rattle.records.proofs.count_table.Symbol.{name as #count-table}
-use Rattle.records.proofs.count_table.Met as count-table-thm
+use Rattle.record_counting.proofs.count_table as count-table
+use Rattle.record_counting.proofs.count_table.Symbol as count-table-def
+use Rattle.record_counting.proofs.count_table.Symbol.{name as #count-table}
+use Rattle.record_counting.proofs.count_table.Met as count-table-thm
 use Rattle.tally.proofs.answer_for as answer-for
 use Rattle.tally.proofs.answer_for.Symbol as answer-for-def
 use Rattle.tally.proofs.answer_for.Symbol.{name as #answer-for}
 use Rattle.tally.proofs.answer_for.Met as answer-for-thm
-use Rattle.records.proofs.count_written as count-written
-use Rattle.records.proofs.count_written.Symbol as count-written-def
-use Rattle.records.proofs.count_written.Symbol.{name as #count-written}
-use Rattle.records.proofs.count_written.Met as count-written-thm
-use Rattle.records.proofs.spell as spell
-use Rattle.records.proofs.spell.Symbol as spell-def
-use Rattle.records.proofs.spell.Symbol.{name as #spell}
-use Rattle.records.proofs.spell.Met as spell-thm
-use Rattle.records.proofs.write_table.Key.{name as #write-table}
-use Rattle.records.proofs.write_table as f
-use Rattle.records.proofs.write_table.Statement as stated
-use Rattle.records.proofs.write_table.Code as code
+use Rattle.record_writing.proofs.count_written as count-written
+use Rattle.record_writing.proofs.count_written.Symbol as count-written-def
+use Rattle.record_writing.proofs.count_written.Symbol.{name as #count-written}
+use Rattle.record_writing.proofs.count_written.Met as count-written-thm
+use Rattle.record_writing.proofs.spell as spell
+use Rattle.record_writing.proofs.spell.Symbol as spell-def
+use Rattle.record_writing.proofs.spell.Symbol.{name as #spell}
+use Rattle.record_writing.proofs.spell.Met as spell-thm
+use Rattle.record_writing.proofs.write_table.Key.{name as #write-table}
+use Rattle.record_writing.proofs.write_table as f
+use Rattle.record_writing.proofs.write_table.Statement as stated
+use Rattle.record_writing.proofs.write_table.Code as code
 
 abbrev the-one : List Val → Val
 the-one [] = vunit
@@ -353,10 +353,10 @@ write-table-spec 𝓤 H 𝓜 𝓖 𝓡 =
     (tables 𝓤 H 𝓜 𝓡 code.env .C) (tables 𝓤 H 𝓜 𝓡 code.env .Λ) #write-table code.function (code.unfolded 𝓤 H 𝓜 𝓡)
     (write-table-meets 𝓤 H (𝓖 .A) (givenOf 𝓤 H 𝓜 𝓖) (𝓜 .mem) (𝓡 .run) (tablesOf 𝓤 H 𝓜 (tables 𝓤 H 𝓜 𝓡 code.env))
     (cited 𝓤 H (CountTable 𝓤 H (𝓖 .A) (𝓜 .mem) (𝓡 .run)) 𝓜 𝓡 code.env #count-table count-table-def.routine
-    code.calls-records·count-table (count-table-thm.met 𝓤 H 𝓜 𝓖 𝓡))
+    code.calls-record-counting·count-table (count-table-thm.met 𝓤 H 𝓜 𝓖 𝓡))
     (cited 𝓤 H (AnswerFor 𝓤 H (𝓖 .A) (𝓜 .mem) (𝓡 .run)) 𝓜 𝓡 code.env #answer-for answer-for-def.routine
     code.calls-tally·answer-for (answer-for-thm.met 𝓤 H 𝓜 𝓖 𝓡))
     (cited 𝓤 H (CountWritten 𝓤 H (𝓖 .A) (𝓜 .mem) (𝓡 .run)) 𝓜 𝓡 code.env #count-written count-written-def.routine
-    code.calls-records·count-written (count-written-thm.met 𝓤 H 𝓜 𝓖 𝓡))
-    (cited 𝓤 H (Spell 𝓤 H (𝓖 .A) (𝓜 .mem) (𝓡 .run)) 𝓜 𝓡 code.env #spell spell-def.routine code.calls-records·spell (spell-thm.met 𝓤 H
+    code.calls-record-writing·count-written (count-written-thm.met 𝓤 H 𝓜 𝓖 𝓡))
+    (cited 𝓤 H (Spell 𝓤 H (𝓖 .A) (𝓜 .mem) (𝓡 .run)) 𝓜 𝓡 code.env #spell spell-def.routine code.calls-record-writing·spell (spell-thm.met 𝓤 H
     𝓜 𝓖 𝓡)))

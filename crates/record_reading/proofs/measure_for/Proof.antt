@@ -10,11 +10,11 @@ use Rattle.theory.specs.TurnedDown.{read-word, word-entries, word-fault}
 use Rattle.theory.specs.declared.Refusal.{Refusal}
 use Rattle.word.specs.declared.answers.Read.the-variants.{Done, Refused}
 use Rattle.word.specs.Answers.{read-answer}
-use Rattle.records.specs.Records.{measured}
+use Rattle.record_reading.specs.Storing.{measured}
 use Rattle.word.proofs.Judged.{measured as counted}
 use borrow.Author.Needs.{needs}
-use Rattle.records.proofs.measure_for.Statement.{statement}
-use Rattle.records.proofs.measure_for.Tie as tie
+use Rattle.record_reading.proofs.measure_for.Statement.{statement}
+use Rattle.record_reading.proofs.measure_for.Tie as tie
 
 module _ (w : List ℕ) (room : ℕ) where
   no-room : word-fault w ≡ none → room < length (word-entries w)
