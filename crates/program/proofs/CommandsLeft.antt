@@ -20,10 +20,10 @@ use Rattle.theory.proofs.Nesting.{LowIndices, low, nothing-missing}
 use Rattle.theory.proofs.Lists.{numbers-of}
 use Rattle.theory.proofs.Texts.{text-accepted}
 use Rattle.output.specs.Puts.{most, Put}
-use Rattle.spelling.specs.Spellings.{command-line}
+use Rattle.spelling_sizes.specs.Spellings.{command-line}
 use Rattle.list.proofs.ListCheck.{three-at}
 use Rattle.output.proofs.Puts.{put-nothing, put-then}
-use Rattle.spelling.proofs.Spellings.{line-spelled}
+use Rattle.spelling_sizes.proofs.Spellings.{line-spelled}
 
 -- The commands from place m of a list on
 pub record Left (l : List ℕ) (m : ℕ) : Type 0 where

@@ -6,13 +6,14 @@ use command::INCREMENT;
 use command::LOOP;
 use command::WHILE;
 use output::put_bytes;
+pub use spelling_sizes::command_size;
 ghost use mathlib.Core.Path.{_≡_};
 ghost use mathlib.Core.List.{_++_};
 ghost use Prim.Native.Nat.{_+_, _≤_};
 ghost use lib.ListN.{length};
 ghost use Rattle.theory.specs.Text.{name-of};
 ghost use Rattle.output.specs.Puts.{Put};
-ghost use Rattle.spelling.specs.Spellings.{command-line};
+ghost use Rattle.spelling_sizes.specs.Spellings.{command-line};
 
 // The bytes of the widest line: that which closes a while of an index of three digits.
 const WIDEST: usize = 19;
@@ -50,19 +51,6 @@ fn put_name(out: &mut [u8], at: usize, index: u8) -> usize
                 b'0' + index % 10,
             ],
         )
-    }
-}
-
-// The bytes of a variable's name.
-fn name_size(index: u8) -> usize
-    ensures { λ r. ⌜ (r ≡ length (name-of index)) × (r ≤ 4) ⌝ }
-{
-    if index < 10 {
-        2
-    } else if index < 100 {
-        3
-    } else {
-        4
     }
 }
 
@@ -111,20 +99,4 @@ pub fn put_command(out: &mut [u8], at: usize, kind: u8, index: u8, source: u8) -
     let mut line = [0u8; WIDEST];
     let size = put_line(&mut line, 0, kind, index, source);
     put_bytes(&mut *out, at, &line[..size])
-}
-
-// The bytes of a command's line, LF included.
-pub fn command_size(kind: u8, index: u8, source: u8) -> usize
-    ensures { λ r. ⌜ r ≡ length (command-line kind index source) ⌝ }
-{
-    let size = name_size(index);
-    match kind {
-        CLEAR => size + 6,
-        INCREMENT => 2 * size + 9,
-        COPY => size + name_size(source) + 5,
-        LOOP => size + 6,
-        ENDLOOP => size + 9,
-        WHILE => size + 12,
-        _ => size + 15,
-    }
 }

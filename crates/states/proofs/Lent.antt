@@ -17,9 +17,9 @@ use Rattle.theory.proofs.GoodMemory.{length-cells}
 use Rattle.source_state.specs.Answers.{HandsBack, source-state, ended-by, state-by, moved-by}
 use Rattle.source_state.specs.declared.State.{State}
 use Rattle.source_state.specs.declared.Run.{Run}
-use Rattle.states.specs.Numbers.{state-numbers, state-of, numbers-of, run-numbers, numbers-by, RunsLent}
-use Rattle.states.specs.Numbers.{no-state, lent-state, kept-numbers}
-use Rattle.states.proofs.Parts.{part-length, parts}
+use Rattle.state_numbers.specs.Numbers.{state-numbers, state-of, numbers-of, no-state, lent-state, kept-numbers}
+use Rattle.states.specs.Numbers.{run-numbers, numbers-by, RunsLent}
+use Rattle.state_numbers.proofs.Parts.{part-length, parts}
 
 -- A state has 32 capacities, 32 values and 16 passes-left
 pub record Sized (s : State) : Type 0 where

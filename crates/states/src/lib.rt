@@ -1,7 +1,7 @@
 // Runs of a source from a state that is lent as numbers in one slice, in which the state afterwards then stands.
-mod numbers;
-
 use source::Ended;
+use state_numbers::put_state;
+use state_numbers::state_of;
 use theory::Setting;
 ghost use Rattle.theory.specs.TurnedDown.{read-text-under, read-list-under};
 ghost use Rattle.states.specs.Numbers.{RunsLent};
@@ -10,10 +10,10 @@ ghost use Rattle.states.specs.Numbers.{RunsLent};
 pub fn run_text(setting: Setting, text: &[u8], state: &mut [u32], budget: u32) -> Ended
     ensures { λ r. ⌜ RunsLent (read-text-under setting (now (text .entry))) (now (state .entry)) budget r (now (state .exit)) ⌝ }
 {
-    let run = source::run_text(setting, text, numbers::state_of(&*state), budget);
+    let run = source::run_text(setting, text, state_of(&*state), budget);
     let next = run.state;
     let ended = run.ended;
-    numbers::put_state(next, &mut *state);
+    put_state(next, &mut *state);
     ended
 }
 
@@ -21,9 +21,9 @@ pub fn run_text(setting: Setting, text: &[u8], state: &mut [u32], budget: u32) -
 pub fn run_list(setting: Setting, list: &[u8], state: &mut [u32], budget: u32) -> Ended
     ensures { λ r. ⌜ RunsLent (read-list-under setting (now (list .entry))) (now (state .entry)) budget r (now (state .exit)) ⌝ }
 {
-    let run = source::run_list(setting, list, numbers::state_of(&*state), budget);
+    let run = source::run_list(setting, list, state_of(&*state), budget);
     let next = run.state;
     let ended = run.ended;
-    numbers::put_state(next, &mut *state);
+    put_state(next, &mut *state);
     ended
 }

@@ -2,7 +2,7 @@
 use mathlib.Core.Path.{sym}
 use native.Mathlib.Omega.{arith}
 use lib.Seq.{length-take-le}
-use Rattle.spelling.proofs.Spellings.{put-front}
+use Rattle.spelling.proofs.Front.{put-front}
 use borrow.Author.Needs.{needs}
 use Rattle.spelling.proofs.put_command.Statement.{statement}
 use Rattle.spelling.proofs.put_command.Tie as tie

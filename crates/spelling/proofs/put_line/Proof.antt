@@ -1,7 +1,7 @@
 -- `spelling::put_line` meets its contract: kind by kind.
 use native.Mathlib.Omega.{arith}
 use Rattle.output.proofs.Puts.{put-then}
-use Rattle.spelling.proofs.Spellings.{line-1, line-2, line-3, line-4, line-5, line-6, line-7}
+use Rattle.spelling_sizes.proofs.Spellings.{line-1, line-2, line-3, line-4, line-5, line-6, line-7}
 use borrow.Author.Needs.{needs}
 use Rattle.spelling.proofs.put_line.Statement.{statement}
 use Rattle.spelling.proofs.put_line.Tie as tie

@@ -1,6 +1,6 @@
 -- `spelling::put_name` meets its contract: an X, and one digit, two or three.
 use native.Mathlib.Omega.{arith}
-use Rattle.spelling.proofs.Spellings.{name-one, name-two, name-three}
+use Rattle.spelling_sizes.proofs.Spellings.{name-one, name-two, name-three}
 use borrow.Author.Needs.{needs}
 use Rattle.spelling.proofs.put_name.Statement.{statement}
 use Rattle.spelling.proofs.put_name.Tie as tie

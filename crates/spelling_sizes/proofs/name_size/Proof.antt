@@ -1,10 +1,10 @@
--- `spelling::name_size` meets its contract: an X, and one digit, two or three.
+-- `spelling_sizes::name_size` meets its contract: an X, and one digit, two or three.
 use mathlib.Core.Path.{sym, ap}
 use native.Mathlib.Omega.{arith}
 use lib.ListN.{length}
-use Rattle.spelling.proofs.Spellings.{name-one, name-two, name-three}
-use Rattle.spelling.proofs.name_size.Statement.{statement}
-use Rattle.spelling.proofs.name_size.Tie as tie
+use Rattle.spelling_sizes.proofs.Spellings.{name-one, name-two, name-three}
+use Rattle.spelling_sizes.proofs.name_size.Statement.{statement}
+use Rattle.spelling_sizes.proofs.name_size.Tie as tie
 
 returns : tie.Need-returns
 returns c = (sym (ap length (name-one (c .before .args .index) (c .if1 .taken))), omega arith)

@@ -7,8 +7,8 @@ use native.Mathlib.Omega.{arith}
 use native.Mathlib.Numerals.{add-one}
 use lib.ListN.{length, take, set, getD, length-set}
 use lib.Seq.{take-suc, take-suc-set, take-all}
-use Rattle.states.proofs.numbers.copy.Statement.{statement}
-use Rattle.states.proofs.numbers.copy.Tie as tie
+use Rattle.state_numbers.proofs.copy.Statement.{statement}
+use Rattle.state_numbers.proofs.copy.Tie as tie
 
 one-more : (from to : List ℕ) (i : ℕ) → i < length from → i < length to → take i to ≡ take i from
     → take (i + 1) (set to i (getD from i 0)) ≡ take (i + 1) from

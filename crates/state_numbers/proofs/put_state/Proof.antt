@@ -8,10 +8,10 @@ use native.Mathlib.Omega.{arith}
 use borrow.Author.Tests.{eq-eqb, ne-eqb}
 use lib.ListN.{length, length-map, length-set}
 use borrow.Rule.Slice.PartMut.{putMid}
-use Rattle.states.specs.Numbers.{numbers-of, kept-numbers}
-use Rattle.states.proofs.Parts.{part-length, laid-same, first-size, second-size, third-size, all-written}
-use Rattle.states.proofs.numbers.put_state.Statement.{statement}
-use Rattle.states.proofs.numbers.put_state.Tie as tie
+use Rattle.state_numbers.specs.Numbers.{numbers-of, kept-numbers}
+use Rattle.state_numbers.proofs.Parts.{part-length, laid-same, first-size, second-size, third-size, all-written}
+use Rattle.state_numbers.proofs.put_state.Statement.{statement}
+use Rattle.state_numbers.proofs.put_state.Tie as tie
 
 -- There are 82 of them
 abbrev asked : tie.Else1 → tie.Start

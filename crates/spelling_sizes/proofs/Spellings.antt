@@ -4,14 +4,10 @@ use mathlib.Core.List.{[], _∷_, _++_, append-assoc}
 use Prim.Native.Nat.{ℕ, _+_, _<_, _≤_, _/_, _%_}
 use native.Mathlib.Omega.{arith}
 use borrow.Author.Tests.{ne-eqb}
-use lib.ListN.{length, take, drop}
-use lib.Seq.{take-append-seam}
 use Rattle.theory.specs.Text.{Bytes, bytes, LF, name-of}
 use Rattle.theory.specs.ProgramText.{clear, increment, copy, loop, while, Command, plain, opens, closes, spelling, numbers}
 use Rattle.theory.proofs.Numerals.{decimal-small, decimal-large}
-use Rattle.output.specs.Puts.{most, Put}
-use Rattle.output.proofs.Puts.{sets-front}
-use Rattle.spelling.specs.Spellings.{command-line}
+use Rattle.spelling_sizes.specs.Spellings.{command-line}
 
 -- Names
 
@@ -28,12 +24,6 @@ unfolding name-of
 name-three i h k =
     let hundreds : i / 10 / 10 ≡ i / 100 = omega arith in
     rw (decimal-large i (omega arith), decimal-large (i / 10) (omega arith), decimal-small (i / 10 / 10) (omega arith), hundreds)
-
--- Bytes put at the front of an output that has room for them are its first
-pub put-front : {u l m : Bytes} {j : ℕ} → Put u 0 l m j → j ≤ length l → j < most → take j m ≡ u
-put-front {u} {l} {m} {j} p h k =
-    let all : j ≡ length u = omega (arith, p .next) in
-    rw (all, p .wrote, sets-front l u (omega arith)) (take-append-seam u (drop (length u) l))
 
 -- Lines, by kind
 

@@ -1,10 +1,10 @@
--- `spelling::command_size` meets its contract: kind by kind.
+-- `spelling_sizes::command_size` meets its contract: kind by kind.
 use native.Mathlib.Omega.{arith}
 use lib.ListN.{length-append}
-use Rattle.spelling.proofs.Spellings.{line-1, line-2, line-3, line-4, line-5, line-6, line-7}
+use Rattle.spelling_sizes.proofs.Spellings.{line-1, line-2, line-3, line-4, line-5, line-6, line-7}
 use borrow.Author.Needs.{needs}
-use Rattle.spelling.proofs.command_size.Statement.{statement}
-use Rattle.spelling.proofs.command_size.Tie as tie
+use Rattle.spelling_sizes.proofs.command_size.Statement.{statement}
+use Rattle.spelling_sizes.proofs.command_size.Tie as tie
 
 name-size-requires : tie.Need-name-size-requires
 name-size-requires c κs = search needs

@@ -1,8 +1,8 @@
 // A source's state as numbers in one slice: the capacities, line, steps, then the values, then the passes-left.
-use source::State;
+use source_state::State;
 ghost use mathlib.Core.Path.{_≡_};
 ghost use lib.ListN.{length};
-ghost use Rattle.states.specs.Numbers.{lent-state, kept-numbers};
+ghost use Rattle.state_numbers.specs.Numbers.{lent-state, kept-numbers};
 
 // Where line and steps stand, where the values and the passes-left begin, and how many numbers a state is.
 const LINE: usize = 32;

@@ -2,9 +2,9 @@
 use borrow.Author.Needs.{needs}
 use borrow.Author.Tests.{eq-eqb, ne-eqb}
 use lib.ListN.{length}
-use Rattle.states.specs.Numbers.{state-of, no-state, lent-state}
-use Rattle.states.proofs.numbers.state_of.Statement.{statement}
-use Rattle.states.proofs.numbers.state_of.Tie as tie
+use Rattle.state_numbers.specs.Numbers.{state-of, no-state, lent-state}
+use Rattle.state_numbers.proofs.state_of.Statement.{statement}
+use Rattle.state_numbers.proofs.state_of.Tie as tie
 
 returns : tie.Need-returns
 unfolding lent-state no-state
