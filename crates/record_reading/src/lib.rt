@@ -1,5 +1,5 @@
-// A word read into a lent slice of records: thin functions over those on numbers. The one that has the records in hand is free of branches:
-// where a rule turns the word down, the count handed to it is 0.
+// A word read into a lent slice of records: thin functions over those on numbers. The one that has the records in hand is free of
+// branches: where a rule turns the word down, the count handed to it is 0.
 ghost use mathlib.Core.Path.{_≡_};
 ghost use Rattle.word.specs.Answers.{read-answer};
 ghost use Rattle.record_reading.specs.Answers.{ReadsTable};

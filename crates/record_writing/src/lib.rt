@@ -1,5 +1,5 @@
-// A lent slice of records written as a word: thin functions over those on numbers. The one that has the records in hand is free of branches:
-// where a rule turns the table down, the count handed to it is 0.
+// A lent slice of records written as a word: thin functions over those on numbers. The one that has the records in hand is free of
+// branches: where a rule turns the table down, the count handed to it is 0.
 ghost use mathlib.Core.Path.{_≡_};
 ghost use mathlib.Core.List.{[], _∷_};
 ghost use Prim.Native.Nat.{_≤_};

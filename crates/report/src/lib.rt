@@ -1,5 +1,5 @@
-// The run tool's text for a lent output (document 01, "Run sheet and run tool"): from a program's text and a sheet's to the whole of what is
-// printed; and the same on registers of other capacities (document 02, request 5).
+// The run tool's text for a lent output (document 01, "Run sheet and run tool"): from a program's text and a sheet's to the whole of what
+// is printed; and the same on registers of other capacities (document 02, request 5).
 use registers::Machine;
 use report_text::put_report;
 use theory::Refusal;

@@ -1,9 +1,9 @@
 // Rule 9: whether a state is one of a program's.
+use command::ENDLOOP;
+use command::LOOP;
 use source_state::State;
 use source_state::is_good_passes;
 use source_state::is_good_value;
-use command::ENDLOOP;
-use command::LOOP;
 ghost use mathlib.Core.Path.{_≡_};
 ghost use mathlib.Core.Bool.{_&&_};
 ghost use Prim.Native.Nat.{suc, _≤_};

@@ -41,7 +41,14 @@ fn store_in(values: &mut [u32], capacities: &[u32], kind: u8, i: usize, j: usize
 }
 
 // Does a line of a pair on its entry of the passes-left, by what its variable holds: the next line.
-fn lead_on(passes: &mut [u32], targets: &[u16], entries: &[u8], kind: u8, held: u32, line: u32) -> u32
+fn lead_on(
+    passes: &mut [u32],
+    targets: &[u16],
+    entries: &[u8],
+    kind: u8,
+    held: u32,
+    line: u32,
+) -> u32
     requires { ⌜ Leading (now passes) (now targets) (now entries) line ⌝ }
     ensures { λ r. ⌜
         Left (now (targets .entry)) (now (entries .entry)) kind held line (now (passes .entry)) r (now (passes .exit))
