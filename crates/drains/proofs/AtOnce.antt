@@ -124,12 +124,10 @@ module _ (lengths capacities : List ℕ) (a : ℕ) (bs : List ℕ) (n left : ℕ
           ends (ap (λ y. m * y) (sym e)) refl
           (some-go lengths capacities a m bs (turns-take (omega arith)) (omega (arith, turns-most)) w q d)
 
-  turns-keep : ((i : ℕ) → getD lengths i 0 ≤ getD capacities i 0) → (i : ℕ) → getD (poured a bs m lengths) i 0 ≤ getD capacities i 0
-  turns-keep before i = go m refl
-    where
-      go : (x : ℕ) → m ≡ x → getD (poured a bs m lengths) i 0 ≤ getD capacities i 0
-      go zero z = rw (z, poured-none a bs lengths) (before i)
-      go (suc x) z = some-within lengths capacities a m bs (turns-take (omega arith)) before i
+  turns-keep : ((i : ℕ) → getD lengths i 0 ≤ getD capacities i 0) → (x : ℕ) → m ≡ x → (i : ℕ)
+      → getD (poured a bs m lengths) i 0 ≤ getD capacities i 0
+  turns-keep before zero z i = rw (z, poured-none a bs lengths) (before i)
+  turns-keep before (suc x) z i = some-within lengths capacities a m bs (turns-take (omega arith)) before i
 
 -- What `drain` does
 module _ (lengths capacities kinds operands : List ℕ) (i n left : ℕ) where
@@ -192,5 +190,5 @@ module _ (lengths capacities kinds operands : List ℕ) (i n left : ℕ) where
   drain-lengths-fit before j = go (is-drain kinds operands i n) refl
     where
       go : (t : Bool) → is-drain kinds operands i n ≡ t → getD (poured a bs all-turns lengths) j 0 ≤ getD capacities j 0
-      go true h = rw (turns-drain h) (turns-keep lengths capacities a bs n left before j)
+      go true h = rw (turns-drain h) (turns-keep lengths capacities a bs n left before _ refl j)
       go false h = rw (turns-none h, poured-none a bs lengths) (before j)

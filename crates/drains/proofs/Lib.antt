@@ -1,5 +1,4 @@
 pub mod Loops
-pub mod Bulk
 pub mod Filling
 pub mod Rooms
 pub mod Poured

@@ -19,7 +19,8 @@ use Rattle.counts.proofs.run_countable.Statement.{statement}
 use Rattle.counts.proofs.run_countable.Tie as tie
 
 -- what `entry` returns, of the place itself
-is : (c : tie.After-entry) → let a = c .before .before .before .before .before .before .args in c .entry .result ≡ entry-of (a .at .place) (length (a .kinds .now))
+is : (c : tie.After-entry) → let a = c .before .before .before .before .before
+    .before .args in c .entry .result ≡ entry-of (a .at .place) (length (a .kinds .now))
 is c =
     let a = c .before .before .before .before .before .before .args in
     c .entry .ensures ∙ ap (λ (z : ℤ). entry-of z (length (a .kinds .now)))
@@ -62,7 +63,11 @@ returns-2 c =
     let e = c .before .before .before .before .before .before .before .before .before .before .before .before in
     let a = e .args in
     let q = c .before .before .before .run-lengths in
-    let few : a .at .steps ≤ last-count = omega (arith, c .before .before .before .before .before .before .before .struct-told .given .1 .0 .1) in
+    let few : a .at .steps ≤ last-count = omega (
+      arith,
+      c .before .before .before .before .before .before
+          .before .struct-told .given .1 .0 .1,
+    ) in
     rw (c .ran .ensures)
     (whole-ran (a .capacities .now) (a .lengths .now) (a .kinds .now) (a .operands .now) (e .pre) (a .at) (a .budget) (q .result) _
     (subst

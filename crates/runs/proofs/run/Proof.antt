@@ -57,7 +57,8 @@ same-length-4 c = search needs
 
 returns-2 : tie.Need-returns-2
 returns-2 c =
-    let a = c .before .before .before .before .before .before .before .before .before .before .before .before .before .before .before .before .before .before .before .args in
+    let a = c .before .before .before .before .before .before .before .before .before .before .before .before .before .before
+    .before .before .before .before .before .args in
     let q = c .before .before .before .before .before .before .before .run-ones in
     subst
     (λ (x : Counted). RanOnes (memory (a .capacities .now) (a .store .now) (a .lengths .now)) (a .at) (a .budget)
@@ -72,7 +73,8 @@ same-length-6 c = search needs
 
 returns-3 : tie.Need-returns-3
 returns-3 c =
-    let a = c .before .before .before .before .before .before .before .before .before .before .before .before .before .before .before .before .before .before .before .before .before .before .before .before .before .args in
+    let a = c .before .before .before .before .before .before .before .before .before .before .before .before .before .before
+    .before .before .before .before .before .before .before .before .before .before .before .args in
     let q = c .before .before .before .before .before .before .before .before .before .before .before .before .before .run-ones in
     let same = subst
     (λ (x : Counted). RanOnes (memory (a .capacities .now) (a .store .now) (a .lengths .now)) (a .at) (a .budget)

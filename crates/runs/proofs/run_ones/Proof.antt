@@ -26,11 +26,16 @@ run-requires : tie.Need-run-requires
 run-requires c κs = search needs
 
 array-share-prefix-before : tie.Need-array-share-prefix-before
-array-share-prefix-before c = omega (arith, few (c .before .before .before .before .before .before .before .before .before .before .before .before))
+array-share-prefix-before c = omega (
+  arith,
+  few (c .before .before .before .before .before .before .before .before .before .before
+      .before .before),
+)
 
 slice-aggregate-lay-ones : tie.Need-slice-aggregate-lay-ones
 slice-aggregate-lay-ones c =
-    sym (ap length (copied-take (c .before .before .before .before .before .before .before .before .before .before .before .before .before .args .lengths .now) _ (c .before .before .before .before .before .before .copied .ensures)
+    sym (ap length (copied-take (c .before .before .before .before .before .before .before .before .before .before .before .before
+    .before .args .lengths .now) _ (c .before .before .before .before .before .before .copied .ensures)
     (few (c .before .before .before .before .before .before .before .before .before .before .before .before .before))))
 
 lay-ones-requires : tie.Need-lay-ones-requires
@@ -44,9 +49,14 @@ same-length-2 c = search needs
 
 returns : tie.Need-returns
 returns c =
-    let e = c .before .before .before .before .before .before .before .before .before .before .before .before .before .before .before .before .before in
+    let e = c .before .before .before .before .before .before .before .before .before .before .before .before .before .before
+    .before .before .before in
     let a = e .args in
-    rw (c .before .before .lay-ones .ensures, copied-take (a .lengths .now) _ (c .before .before .before .before .before .before .before .before .before .before .copied .ensures) (few e))
+    rw (
+      c .before .before .lay-ones .ensures,
+      copied-take (a .lengths .now) _ (c .before .before .before .before .before .before
+          .before .before .before .before .copied .ensures) (few e),
+    )
     (ran-ones (a .capacities .now) (a .store .now) (a .lengths .now) (a .kinds .now) (a .operands .now) (a .at) (a .budget) (e .pre) _ _
     (c .before .before .before .before .before .before .before .before .run .ensures))
 

@@ -25,7 +25,8 @@ names : (c : tie.At-match-rest)
     names-register (getD (a .kinds .now) (a .here - 1000000 - 1) 0) ≡ true
 names c =
     let r = c .match .rest in
-    rw (lt-ltb (getD (c .before .before .before .before .before .before .before .args .kinds .now) (c .before .before .before .before .before .before .before .args .here - 1000000 - 1) 0) 3
+    rw (lt-ltb (getD (c .before .before .before .before .before .before .before .args .kinds .now) (c .before .before .before
+    .before .before .before .before .args .here - 1000000 - 1) 0) 3
     (omega (arith, usable (c .before .before .before .before .before .before .before) .last, r .0 .0 .1, r .0 .1, r .1)))
 
 sub-i : tie.Need-sub-i
@@ -47,10 +48,21 @@ cast-operand : tie.Need-cast-operand
 cast-operand c = omega (arith, usable (c .before .before .before .before .before .before) .small)
 
 add-t16 : tie.Need-add-t16
-add-t16 c = omega (arith, usable (c .before .before .before .before .before .before .before) .small, c .before .before .before .before .before .before .before .pre .2, c .before .before .before .before .before .before .before .pre .0 .usable .count)
+add-t16 c = omega (
+  arith,
+  usable (c .before .before .before .before .before .before .before) .small,
+  c .before .before .before
+      .before .before .before .before .pre .2,
+  c .before .before .before .before .before .before .before .pre .0 .usable .count,
+)
 
 sub-back : tie.Need-sub-back
-sub-back c = omega (arith, usable (c .before .before .before .before .before .before .before .before) .small, c .before .before .before .before .before .before .before .before .pre .1)
+sub-back c = omega (
+  arith,
+  usable (c .before .before .before .before .before .before .before .before) .small,
+  c .before .before
+      .before .before .before .before .before .before .pre .1,
+)
 
 back-requires : tie.Need-back-requires
 back-requires c κs = search needs
@@ -61,7 +73,13 @@ sub-take-one c = omega (arith, usable (c .before .before .before .before .before
 take-one-requires : tie.Need-take-one-requires
 take-one-requires c κs =
     let u = usable (c .before .before .before .before .before .before .before .before) in
-    omega (arith, u .some, u .named (ap names-register (c .before .match .keys3)), c .before .before .before .before .before .before .before .before .pre .0 .paired)
+    omega (
+      arith,
+      u .some,
+      u .named (ap names-register (c .before .match .keys3)),
+      c .before .before .before .before .before
+          .before .before .before .pre .0 .paired,
+    )
 
 after-cases-requires : tie.Need-after-cases-requires
 after-cases-requires c κs = search needs
@@ -129,7 +147,8 @@ returns-4 c =
     (a .left) (e .pre .3) (n - 1) (omega (arith, u .some))
     (omega (arith, u .some, u .named (names (c .before .before .before .before .before)), e .pre .0 .paired))
     (omega (arith, e .pre .2, e .pre .0 .usable .count))
-    (c .before .before .before .add-one .result) _ (r .0 .0 .1) (r .0 .1) (r .1) (e .pre .0 .no-hash _ (omega (arith, e .pre .1, e .pre .2))) (c .before .before .before .add-one .ensures))
+    (c .before .before .before .add-one .result) _ (r .0 .0 .1) (r .0 .1) (r .1)
+    (e .pre .0 .no-hash _ (omega (arith, e .pre .1, e .pre .2))) (c .before .before .before .add-one .ensures))
 
 pub advance-spec : {M : Type 1} → statement M
 advance-spec =

@@ -33,7 +33,8 @@ add-t14 c =
     omega (
       arith,
       c .before .before .drain .ensures .0,
-      drain-steps-within (a .lengths .now) (a .capacities .now) (a .kinds .now) (a .operands .now) (a .there - 1000000 - 1) (a .n) (a .left - 1),
+      drain-steps-within (a .lengths .now) (a .capacities .now) (a .kinds .now) (a .operands .now) (a .there - 1000000 - 1) (a .n)
+          (a .left - 1),
       e .pre,
       e .fits .left,
     )

@@ -21,14 +21,16 @@ abbrev μ-loop : tie.MeasureT-loop
 -- a run that goes on stands at an instruction, and has a step left
 going : (c : tie.Then1 Inv-loop μ-loop)
     → let l = c .before .before .loop in
-    (1000000 < l .here) × (l .here ≤ 1000000 + length (c .before .before .before .before .before .before .before .before .args .kinds .now)) × (l .k < c .before .before .before .allowance .result)
+    (1000000 < l .here) × (l .here ≤ 1000000 + length (c .before .before .before .before .before .before .before
+    .before .args .kinds .now)) × (l .k < c .before .before .before .allowance .result)
 going c = at-instruction _ _ _ _ (sym (c .before .goes-on .ensures) ∙ c .if1 .taken)
 
 -- what a stride did that led on
 strode : (c : tie.After-there Inv-loop μ-loop)
     → let a = c .before .before .before .before .before .before .before .before .before .before .before .before .before .before .args in
     let l = c .before .before .before .before .before .before .before .before .loop in
-    Strode (a .capacities .now) (l .lengths) (a .kinds .now) (a .operands .now) (l .here) (c .before .before .before .before .before .before .before .before .before .allowance .result - l .k)
+    Strode (a .capacities .now) (l .lengths) (a .kinds .now) (a .operands .now) (l .here) (c .before .before .before .before
+    .before .before .before .before .before .allowance .result - l .k)
     (Stride.To (c .there .given .0 .0) (c .there .given .0 .1 .0)) (c .before .before .before .before .advance .last .1 .0)
 strode c =
     let a = c .before .before .before .before .before .before .before .before .before .before .before .before .before .before .args in
@@ -71,11 +73,18 @@ add-k : tie.Need-add-k Inv-loop μ-loop
 add-k c = omega (arith, strode (c .before) .2, going (c .before .before .before .before .before .before .before) .2)
 
 loop-less : tie.Need-loop-less Inv-loop μ-loop
-loop-less c = omega (arith, strode (c .before) .1, strode (c .before) .2, going (c .before .before .before .before .before .before .before) .2)
+loop-less c = omega (
+  arith,
+  strode (c .before) .1,
+  strode (c .before) .2,
+  going (c .before .before .before .before .before .before
+      .before) .2,
+)
 
 loop-again : tie.Need-loop-again Inv-loop μ-loop
 loop-again c =
-    let a = c .before .before .before .before .before .before .before .before .before .before .before .before .before .before .before .args in
+    let a = c .before .before .before .before .before .before .before .before .before .before .before .before .before .before
+    .before .args in
     let l = c .before .before .before .before .before .before .before .before .before .loop in
     let w = c .before .before .before .before .before .before .before .before .before .before .allowance in
     let g = going (c .before .before .before .before .before .before .before) in

@@ -22,7 +22,8 @@ all-within-requires c κs = search needs
 returns-3 : tie.Need-returns-3
 returns-3 c =
     let a = c .before .before .before .before .before .before .before .args in
-    sym (not-within (a .capacities .now) (a .lengths .now) (a .kinds .now) (c .before .before .before .if1 .left) (c .before .before .if2 .left)
+    sym (not-within (a .capacities .now) (a .lengths .now) (a .kinds .now) (c .before .before .before .if1 .left) (c .before
+    .before .if2 .left)
     (sym (c .before .all-within .ensures) ∙ not-true _ (c .if3 .taken)))
 
 no-hash-requires : tie.Need-no-hash-requires
@@ -32,7 +33,8 @@ returns-4 : tie.Need-returns-4
 returns-4 c =
     let a = c .before .before .before .before .before .before .before .before .args in
     c .no-hash .ensures
-    ∙ sym (by-kinds (a .capacities .now) (a .lengths .now) (a .kinds .now) (c .before .before .before .before .if1 .left) (c .before .before .before .if2 .left)
+    ∙ sym (by-kinds (a .capacities .now) (a .lengths .now) (a .kinds .now) (c .before .before .before .before .if1 .left) (c
+    .before .before .before .if2 .left)
     (sym (c .before .before .all-within .ensures) ∙ not-false _ (c .before .if3 .left)))
 
 pub has-counts-spec : {M : Type 1} → statement M

@@ -115,12 +115,15 @@ same-length-3 c = search needs
 
 returns : tie.Need-returns Inv-loop μ-loop
 returns c =
-    let e = c .before .before .before .before .before .before .before .before .before .before .before .before .before .before .before .before .before .before .before .before .before .before .before .before .before in
+    let e = c .before .before .before .before .before .before .before .before .before .before .before .before .before .before
+    .before .before .before .before .before .before .before .before .before .before .before in
     let a = e .args in
-    let l = c .before .before .before .before .before .before .before .before .before .before .before .before .before .before .before .before .loop in
+    let l = c .before .before .before .before .before .before .before .before .before .before .before .before .before .before
+    .before .before .loop in
     let r = l .inv .0 in
     let q = c .before .before .before .before .before .before .before .before .perform in
-    let w = c .before .before .before .before .before .before .before .before .before .before .before .before .before .before .before .before .before .allowance in
+    let w = c .before .before .before .before .before .before .before .before .before .before .before .before .before .before
+    .before .before .before .allowance in
     let g = going (c .before .before .before .before .before .before .before .before .before .before .before .before .before .before) in
     running-full (a .capacities .now) (a .store .now) (a .lengths .now) (a .kinds .now) (a .operands .now) (a .from) (a .steps) (a .budget)
     (w .result) r (e .pre .2) (w .ensures) (g .0) (g .1) (g .2)
@@ -145,13 +148,17 @@ loop-less c = omega (
 
 loop-again : tie.Need-loop-again Inv-loop μ-loop
 loop-again c =
-    let e = c .before .before .before .before .before .before .before .before .before .before .before .before .before .before .before .before .before .before .before .before .before .before .before .before .before .before in
+    let e = c .before .before .before .before .before .before .before .before .before .before .before .before .before .before
+    .before .before .before .before .before .before .before .before .before .before .before .before in
     let a = e .args in
-    let l = c .before .before .before .before .before .before .before .before .before .before .before .before .before .before .before .before .before .loop in
+    let l = c .before .before .before .before .before .before .before .before .before .before .before .before .before .before
+    .before .before .before .loop in
     let r = l .inv .0 in
     let q = c .before .before .before .before .before .before .before .before .before .perform in
-    let w = c .before .before .before .before .before .before .before .before .before .before .before .before .before .before .before .before .before .before .allowance in
-    let g = going (c .before .before .before .before .before .before .before .before .before .before .before .before .before .before .before) in (
+    let w = c .before .before .before .before .before .before .before .before .before .before .before .before .before .before
+    .before .before .before .before .allowance in
+    let g = going (c .before .before .before .before .before .before .before .before .before .before .before .before .before
+    .before .before) in (
       running-step (a .capacities .now) (a .store .now) (a .lengths .now) (a .kinds .now) (a .operands .now) (a .from) (a .steps)
           (a .budget) (w .result) r (e .pre .2) (w .ensures) (g .0) (g .1) (g .2) (c .before .there .given .0 .0)
           (λ i k o. subst

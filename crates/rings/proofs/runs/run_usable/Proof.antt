@@ -27,7 +27,8 @@ use Rattle.rings.proofs.runs.run_usable.Statement.{statement}
 use Rattle.rings.proofs.runs.run_usable.Tie as tie
 
 -- what `entry` returns, of the place itself
-is : (c : tie.After-entry) → let a = c .before .before .before .before .before .before .before .args in c .entry .result ≡ entry-of (a .at .place) (length (a .kinds .now))
+is : (c : tie.After-entry) → let a = c .before .before .before .before .before .before
+    .before .args in c .entry .result ≡ entry-of (a .at .place) (length (a .kinds .now))
 is c =
     let a = c .before .before .before .before .before .before .before .args in
     c .entry .ensures ∙ ap (λ (z : ℤ). entry-of z (length (a .kinds .now)))
@@ -115,11 +116,16 @@ same-length-2 c = search needs
 
 returns-2 : tie.Need-returns-2
 returns-2 c =
-    let e = c .before .before .before .before .before .before .before .before .before .before .before .before .before .before .before .before .before .before .before .before .before .before .before .before .before in
+    let e = c .before .before .before .before .before .before .before .before .before .before .before .before .before .before
+    .before .before .before .before .before .before .before .before .before .before .before in
     let a = e .args in
     let sized = memory-sized (a .capacities .now) (a .store .now) (a .lengths .now) (e .pre .0) in
     let s = stopped (c .before .before .before .before .before .before .before .before .before .before .before) in
-    let few : a .at .steps ≤ last-count = omega (arith, c .before .before .before .before .before .before .before .before .before .before .before .before .before .before .before .before .before .before .before .struct-told .given .1 .0 .1) in
+    let few : a .at .steps ≤ last-count = omega (
+      arith,
+      c .before .before .before .before .before .before .before .before .before
+          .before .before .before .before .before .before .before .before .before .before .struct-told .given .1 .0 .1,
+    ) in
     rw (c .ran .ensures)
     (whole-stopped (a .capacities .now) (a .store .now) (a .lengths .now) (e .pre .0) (a .kinds .now) (a .operands .now) (e .pre .1) (a .at)
     (a .budget) _ _ _
