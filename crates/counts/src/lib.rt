@@ -1,13 +1,13 @@
 // Runs of a table of numbers on registers that hold 1s alone: a register is its length, and many turns of a small loop are done at once.
+mod countable; // countable.rt: whether a table can be run so
 mod steps; // steps.rt: one step, with the turns that begin where it leads; the steps of a run
-mod tests; // tests.rt: whether a table can be run so
 
+pub use countable::no_hash;
 ghost use Rattle.counts.specs.Counts.{CountsTo, is-countable, Countable, counted-outcome, Ran-as};
+use crate::countable::is_countable;
 use crate::steps::run_lengths;
-use crate::tests::is_countable;
 use memory::Position;
 use memory::Run;
-pub use tests::no_hash;
 use underway::BIAS;
 use underway::entry;
 use underway::ran;

@@ -3,8 +3,8 @@ use mathlib.Core.Path.{sym, _∙_}
 use borrow.Author.Tests.{not-true, not-false}
 use Rattle.counts.proofs.Tested.{too-many, unpaired, not-within, by-kinds}
 use borrow.Author.Needs.{needs}
-use Rattle.counts.proofs.tests.has_counts.Statement.{statement}
-use Rattle.counts.proofs.tests.has_counts.Tie as tie
+use Rattle.counts.proofs.countable.has_counts.Statement.{statement}
+use Rattle.counts.proofs.countable.has_counts.Tie as tie
 
 returns : tie.Need-returns
 returns c =

@@ -8,8 +8,8 @@ use Rattle.underway.proofs.AllUsable.{found, found-none}
 use Rattle.counts.specs.Counts.{is-none}
 use Rattle.counts.proofs.Tested.{no-counts, by-search}
 use borrow.Author.Needs.{needs}
-use Rattle.counts.proofs.tests.is_countable.Statement.{statement}
-use Rattle.counts.proofs.tests.is_countable.Tie as tie
+use Rattle.counts.proofs.countable.is_countable.Statement.{statement}
+use Rattle.counts.proofs.countable.is_countable.Tie as tie
 
 has-counts-requires : tie.Need-has-counts-requires
 has-counts-requires c κs = search needs

@@ -4,8 +4,8 @@ use Prim.Native.Nat.{_-_}
 use lib.ListN.{length}
 use Rattle.registers.proofs.CanHold.{WithinTo, within-none, within-more, within-fails, within-all}
 use borrow.Author.Needs.{needs}
-use Rattle.counts.proofs.tests.all_within.Statement.{statement}
-use Rattle.counts.proofs.tests.all_within.Tie as tie
+use Rattle.counts.proofs.countable.all_within.Statement.{statement}
+use Rattle.counts.proofs.countable.all_within.Tie as tie
 
 abbrev Inv-loop : tie.InvT-loop
 Inv-loop capacities lengths i₀ i = WithinTo capacities lengths i

@@ -9,8 +9,8 @@ use Rattle.text.proofs.Tests.{all-next, all-fails, all-passed}
 use borrow.Author.Tests.{eq-eqb, ne-eqb}
 use Rattle.counts.specs.Counts.{no-2}
 use borrow.Author.Needs.{needs}
-use Rattle.counts.proofs.tests.no_hash.Statement.{statement}
-use Rattle.counts.proofs.tests.no_hash.Tie as tie
+use Rattle.counts.proofs.countable.no_hash.Statement.{statement}
+use Rattle.counts.proofs.countable.no_hash.Tie as tie
 
 abbrev Inv-loop : tie.InvT-loop
 Inv-loop kinds ok₀ i₀ ok i = (i ≤ length kinds) × (all no-2 kinds ≡ (ok && all no-2 (drop i kinds)))
