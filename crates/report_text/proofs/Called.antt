@@ -1,90 +1,34 @@
 -- What the runs that this crate calls hand back for a row: the ends and the steps of the definitions' runs.
-use mathlib.Core.Path.{subst, _≡_, refl, sym, ap, _∙_}
+use mathlib.Core.Path.{subst, _≡_, sym, ap, _∙_}
 use mathlib.Core.Option.{none, some, Option·none-ne-some}
 use mathlib.Core.List.{List}
 use Prim.Native.Nat.{ℕ}
 use native.Mathlib.Omega.{arith}
-use lib.IntN.{pos}
-use lib.ListN.{length, getD}
+use lib.ListN.{getD}
 use Rattle.theory.specs.Text.{Bytes}
 use Rattle.theory.specs.ProgramText.{Command, variables, commands}
-use Rattle.theory.specs.Word as W
-use Rattle.theory.specs.Word.{Entry}
-use Rattle.theory.specs.Translation.{word-of, word-text}
-use Rattle.theory.specs.Machines.{Memory, run-word}
-use Rattle.theory.specs.TurnedDown.{done, after, read-list, read-word-for, word-fault, word-entries, instructions, run-from, for-machine}
+use Rattle.theory.specs.Translation.{word-text}
+use Rattle.theory.specs.TurnedDown.{done, after, read-list, read-word-for, word-fault, word-entries, run-from}
 use Rattle.theory.specs.RunTool.{source-on, word-on}
 use Rattle.theory.specs.Claims.{Accepted}
 use Rattle.theory.specs.declared.Refusal.{Refusal}
 use Rattle.theory.proofs.Faults.{none-first, answer-done}
 use Rattle.theory.proofs.Nesting.{reads-accepted}
 use Rattle.theory.proofs.Sizes.{words-fit}
-use Rattle.theory.proofs.Words.{good-table}
 use Rattle.word.specs.Answers.{zipped}
-use Rattle.memory.specs.Calls as Calls
-use Rattle.memory.specs.declared.answers.Ended as Ended
-use Rattle.memory.specs.declared.answers.Position.{Position}
-use Rattle.memory.specs.declared.answers.Run as M
-use Rattle.machine.proofs.ByByte.{ended-by-byte, ran-by-table}
-use Rattle.machine.proofs.ReadWord.{word-good, word-read}
 use Rattle.source_state.specs.Answers.{source-state, fresh-state, ended-by, state-by, HandsBack}
 use Rattle.source_state.specs.declared.Run.{Run}
 use Rattle.source_state.specs.declared.State.{State}
 use Rattle.capacities.specs.Room.{of-variables}
 use Rattle.report_text.specs.Fresh.{values-of, IsSet, Starts}
-use Rattle.report_text.specs.Rows.{ended-of, word-ended, source-ended, row-of, Ready, Tabled, Ran}
+use Rattle.report_text.specs.Rows.{ended-of, source-ended, row-of, Ready, Tabled, Ran}
 use Rattle.printing.specs.declared.Ended.{Ended}
-use Rattle.report_text.proofs.Starting.{source-passes, source-runs, source-within, first-within}
-use Rattle.report_text.proofs.Fresh.{word-memory, Filled}
-use Rattle.report_text.proofs.Starting.{word-start, memory-passes, word-runs, word-within, word-on-runs}
-use Rattle.report_text.proofs.Sets.{registers}
+use Rattle.report_text.proofs.Starting.{source-passes, source-runs, source-within, first-within, word-within}
 
 -- The word of an accepted program passes rules 11 to 14
 word-passes : (p : List Command) → Accepted p → word-fault (word-text p) ≡ none
 unfolding read-word-for
 word-passes p accepted = none-first (word-fault (word-text p)) _ (answer-done _ _ _ (words-fit p accepted .read) .0)
-
--- Where a refusal is, counts for nothing
-any-place : (t : List Entry) (e : Ended.Ended) → word-ended (ended-by-byte t e) ≡ word-ended e
-any-place t (Ended.Ended.Ran end n) = refl
-any-place t (Ended.Ended.Refused r) = refl
-
-module _ (capacities : List ℕ) (set : IsSet capacities) (p : List Command) (accepted : Accepted p) (values : List ℕ)
-    (h : Starts (length values) capacities values) (named : length values ≡ variables p) (store : Bytes) (lengths : List ℕ)
-    (filled : Filled capacities values store lengths) where
-  abbrev m : Memory
-  m = word-memory capacities store lengths
-
-  ran : run-word (word-of p) m word-start 1000000 ≡ word-on capacities p (values-of values)
-  ran =
-      word-runs capacities set values h store lengths filled (word-of p)
-      ∙ rw named (sym (word-on-runs capacities p (values-of values)))
-
-  read : for-machine m (read-word-for (length capacities) (word-text p)) ≡ done (W.table-of (word-of p))
-  read = rw (memory-passes capacities set values h store lengths filled, registers capacities set) (words-fit p accepted .read)
-
-  pub word-called-ends : (r : M.Run) (store′ : Bytes) (lengths′ : List ℕ)
-      → Calls.handed r store′ lengths′ ≡ Calls.word-called m (record { place = pos 1; steps = 0 }) 1000000 (word-text p)
-      → word-ended (r .ended) ≡ ended-of (word-on capacities p (values-of values))
-  unfolding Calls.word-called
-  word-called-ends r store′ lengths′ e =
-      let answered = e ∙ ap {B = Calls.Called} (Calls.called m (record { place = pos 1; steps = 0 }) 1000000) read in
-      let same : run-word (instructions (W.table-of (word-of p))) m word-start 1000000 ≡ word-on capacities p (values-of values)
-      = ap (λ w. run-word w m word-start 1000000) (words-fit p accepted .same) ∙ ran in
-      ap {B = Ended} (λ c. word-ended (c .run .ended)) answered ∙ ap {B = Ended} ended-of same
-
-  -- The word's instructions, run, end as the word does
-  pub table-called-ends : (r : M.Run) (store′ : Bytes) (lengths′ : List ℕ)
-      → Calls.handed r store′ lengths′
-      ≡ Calls.table-called m (record { place = pos 1; steps = 0 }) 1000000 (word-entries (word-text p))
-      → word-ended (r .ended) ≡ ended-of (word-on capacities p (values-of values))
-  table-called-ends r store′ lengths′ e =
-      let t = word-entries (word-text p) in
-      let at : Position = record { place = pos 1; steps = 0 } in
-      let passes = good-table t (word-good (word-text p) (word-passes p accepted)) in
-      let ran-so = ran-by-table m at 1000000 t passes r store′ lengths′ e (r .ended) refl ∙ sym (word-read m at 1000000 (word-text p)
-      (word-passes p accepted)) in
-      sym (any-place t (r .ended)) ∙ word-called-ends _ store′ lengths′ ran-so
 
 -- The source
 module _ (capacities : List ℕ) (set : IsSet capacities) (p : List Command) (values : List ℕ) (h : Starts (variables p) capacities values)

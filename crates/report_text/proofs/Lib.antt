@@ -1,5 +1,6 @@
 pub mod Sets
 pub mod Fresh
+pub mod Countable
 pub mod Starting
 pub mod Values
 pub mod Sheets

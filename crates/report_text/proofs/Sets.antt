@@ -1,5 +1,5 @@
 -- What it says of capacities that rule 10 lets them pass for a report; and the variables' part of them.
-use mathlib.Core.Path.{_≡_, refl, _∙_}
+use mathlib.Core.Path.{_≡_, refl}
 use mathlib.Core.Bool.{Bool, true, false}
 use mathlib.Core.List.{List, [], _∷_}
 use Prim.Native.Nat.{ℕ, zero, suc, _≤_, _<_}
@@ -8,16 +8,13 @@ use native.Mathlib.Omega.{arith}
 use lib.Dec.{eqb, leb, ltb}
 use lib.ListN.{length, getD, List·getD-eq-default}
 use borrow.Author.Tests.{eqb-true, leb-true, ltb-true, ltb-false}
-use Rattle.theory.specs.Basics.{sum, all}
+use Rattle.theory.specs.Basics.{all}
 use Rattle.theory.specs.Runs.{register}
 use Rattle.theory.specs.Machines.{capacity-of, is-limited}
 use Rattle.theory.specs.TurnedDown.{are-capacities}
 use Rattle.theory.specs.RunTool.{capacities-fault}
 use Rattle.theory.proofs.Faults.{unless-none, and-first, and-second}
 use Rattle.theory.proofs.GoodMemory.{all-below-from}
-use Rattle.theory.proofs.Offsets.{offset-whole, offset-bound}
-use Rattle.layout.specs.Offsets.{offsets-of}
-use Rattle.layout.proofs.OffsetTable.{offsets-at}
 use Rattle.capacities.specs.Room.{is-set, of-variables}
 use Rattle.capacities.proofs.Cells.{variables-at}
 use Rattle.report_text.specs.Fresh.{IsSet}
@@ -41,7 +38,7 @@ module _ (capacities : List ℕ) (set : IsSet capacities) where
   pub registers : length capacities ≡ 64
   registers = eqb-true (length capacities) 64 (and-first (eqb (length capacities) 64) (all (is-limited 1024) capacities) passing)
 
-  pub limited : all (is-limited 1024) capacities ≡ true
+  limited : all (is-limited 1024) capacities ≡ true
   limited = and-second (eqb (length capacities) 64) (all (is-limited 1024) capacities) passing
 
   pub capacity-limited : (i : ℕ) → i < 64 → is-limited 1024 (getD capacities i 0) ≡ true
@@ -55,10 +52,7 @@ module _ (capacities : List ℕ) (set : IsSet capacities) where
   variables-limited K few = all-below-from K _ λ i l.
       rw (variable-capacity capacities i (omega arith), add-one i) (capacity-limited i (omega arith))
 
-  pub last-offset : (table : List ℕ) → table ≡ offsets-of capacities → getD table 64 0 ≡ sum capacities
-  last-offset table is = rw is (offsets-at capacities 64 (omega arith) ∙ rw (← registers) (offset-whole capacities))
-
-  low-anywhere : (i : ℕ) → getD capacities i 0 ≤ 1024
+  pub low-anywhere : (i : ℕ) → getD capacities i 0 ≤ 1024
   low-anywhere i = go (ltb i 64) refl
     where
       go : (t : Bool) → ltb i 64 ≡ t → getD capacities i 0 ≤ 1024
@@ -66,6 +60,3 @@ module _ (capacities : List ℕ) (set : IsSet capacities) where
       go false e =
           let past : length capacities ≤ i = omega (arith, registers, ltb-false i 64 e) in
           omega (arith, List·getD-eq-default capacities 0 {n = i} past)
-
-  pub sum-fits : sum capacities ≤ 65536
-  sum-fits = rw (← (offset-whole capacities), registers) (offset-bound capacities 1024 low-anywhere 64)

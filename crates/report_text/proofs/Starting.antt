@@ -1,35 +1,30 @@
--- What a row starts from is turned down by no rule, and its two runs are those of the definitions, within the tool's budgets.
+-- What a row's source starts from is turned down by no rule, and its run is the definition's. Both runs are within the tool's budgets.
 use mathlib.Core.Path.{_≡_, refl, sym, ap, _∙_, fun-ext}
 use mathlib.Core.Bool.{Bool, true, false}
 use mathlib.Core.Option.{none}
-use mathlib.Core.List.{List, []}
-use Prim.Native.Nat.{ℕ, zero, suc, _≤_, _<_}
+use mathlib.Core.List.{List}
+use Prim.Native.Nat.{ℕ, _≤_, _<_}
 use native.Mathlib.Numerals.{add-one}
 use native.Mathlib.Omega.{arith}
-use lib.IntN.{pos}
 use lib.Dec.{ltb, leb}
-use lib.ListN.{length, getD, replicate}
-use borrow.Author.Tests.{ltb-true, ltb-false, le-ltb}
-use Rattle.theory.specs.Text.{Bytes}
+use lib.ListN.{getD, replicate}
+use borrow.Author.Tests.{ltb-true, ltb-false}
 use Rattle.theory.specs.ProgramText.{Command, variables}
-use Rattle.theory.specs.Runs.{register, Room, Machine, run, within-each}
+use Rattle.theory.specs.Runs.{register, run, within-each}
 use Rattle.theory.specs.Source as S
 use Rattle.theory.specs.Word as W
-use Rattle.theory.specs.Word.{Symbol}
 use Rattle.theory.specs.Translation.{word-of}
-use Rattle.theory.specs.Machines.{capacity-of, SourceState, run-source, Memory, Position, refilled, contents, holding, run-word}
+use Rattle.theory.specs.Machines.{capacity-of, SourceState, run-source}
 use Rattle.theory.specs.RunTool.{source-on, word-on}
-use Rattle.theory.specs.TurnedDown.{rule-9, rule-10}
+use Rattle.theory.specs.TurnedDown.{rule-9}
 use Rattle.theory.specs.Claims.{Accepted}
 use Rattle.theory.proofs.Budgets.{steps-within}
 use Rattle.theory.proofs.GoodSource.{Stood, stood-is-source, run-stands}
-use Rattle.theory.proofs.GoodMemory.{Fits, Good, good-is-memory, refilled-good, contents-refilled, contents-beyond}
 use Rattle.theory.proofs.Rooms.{same-machine}
 use Rattle.capacities.specs.Room.{of-variables}
-use Rattle.registers.proofs.Filling.{zeros-at, length-ones}
+use Rattle.registers.proofs.Filling.{zeros-at}
 use Rattle.report_text.specs.Fresh.{values-of, IsSet, Starts}
-use Rattle.report_text.proofs.Sets.{registers, limited, capacity-low, variable-capacity, variables-limited}
-use Rattle.report_text.proofs.Fresh.{word-memory, Filled}
+use Rattle.report_text.proofs.Sets.{capacity-low, variable-capacity, variables-limited}
 
 -- The source
 
@@ -95,56 +90,7 @@ module _ (capacities : List ℕ) (set : IsSet capacities) (p : List Command) (va
 
 -- The word
 
-abbrev pub word-start : Position
-word-start = record { place = pos 1; steps = 0 }
-
-module _ (capacities : List ℕ) (set : IsSet capacities) (values : List ℕ) (h : Starts (length values) capacities values)
-    (store : Bytes) (lengths : List ℕ) (filled : Filled capacities values store lengths) where
-  abbrev m : Memory
-  m = word-memory capacities store lengths
-
-  abbrev f : ℕ → List Symbol
-  f = holding (length values) (values-of values)
-
-  fits : Fits capacities (length capacities) f
-  fits i l = go (ltb i (length values)) refl
-    where
-      go : (t : Bool) → ltb i (length values) ≡ t → length (holding (length values) (values-of values) (suc i)) ≤ getD capacities i 0
-      go true e = rw (e, length-ones (values-of values i)) (h .within i)
-      go false e = rw e (omega arith)
-
-  good : Good (refilled m f)
-  good = refilled-good m f fits (rw (registers capacities set)) (limited capacities set)
-
-  pub memory-passes : rule-10 m ≡ none
-  unfolding rule-10
-  memory-passes = rw (rw (← filled) at (good-is-memory (refilled m f) good))
-
-  held : (r : ℕ) → contents m r ≡ f r
-  held zero = refl
-  held (suc i) = ap {B = List Symbol} (λ n. contents n (suc i)) filled ∙ go (ltb i (length capacities)) refl
-    where
-      go : (t : Bool) → ltb i (length capacities) ≡ t → contents (refilled m f) (suc i) ≡ f (suc i)
-      go true e = contents-refilled m f fits i (ltb-true i (length capacities) e)
-      go false e =
-          let high : length capacities ≤ i = ltb-false i (length capacities) e in
-          let none-held : f (suc i) ≡ [] = rw (le-ltb i (length values) (omega (arith, h .few, registers capacities set))) in
-          contents-beyond (refilled m f) good i high ∙ sym none-held
-
-  pub word-runs : (w : List W.Instruction) → run-word w m word-start 1000000
-      ≡ run (W.machine (within-each (capacity-of capacities)) w) 1000000 0 (record { place = pos 1; registers = f })
-  unfolding run-word
-  word-runs w =
-      let from : (ℕ → List Symbol) → W.State = λ registers. record { place = pos 1; registers = registers } in
-      ap (λ registers. run (W.machine (within-each (capacity-of capacities)) w) 1000000 0 (from registers)) (fun-ext held)
-
 module _ (capacities : List ℕ) (p : List Command) (v : ℕ → ℕ) where
-  pub word-on-runs : word-on capacities p v
-      ≡ run (W.machine (within-each (capacity-of capacities)) (word-of p)) 1000000 0
-      (record { place = pos 1; registers = holding (variables p) v })
-  unfolding word-on
-  word-on-runs = refl
-
   pub word-within : word-on capacities p v .steps ≤ 1000000
   unfolding word-on
   word-within = steps-within (W.machine (within-each (capacity-of capacities)) (word-of p)) 1000000 0 _

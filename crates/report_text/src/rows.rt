@@ -1,4 +1,5 @@
-// The runs of a row: the word's from a fresh machine, and the source's from a fresh state of the same values.
+// The runs of a row: the word's from fresh registers, and the source's from a fresh state of the same values.
+use counts::Counted;
 use printing::Ended;
 use printing::Row;
 use registers::Machine;
@@ -7,9 +8,9 @@ use theory::End;
 use theory::Setting;
 ghost use mathlib.Core.Path.{_≡_};
 ghost use mathlib.Core.List.{List};
-ghost use lib.ListN.{length};
-ghost use Rattle.theory.specs.Limits.{most-registers};
-ghost use Rattle.theory.specs.Basics.{sum};
+ghost use Prim.Native.Nat.{ℕ, _≤_};
+ghost use lib.ListN.{length, getD};
+ghost use Rattle.theory.specs.Limits.{state-values, most-capacity};
 ghost use Rattle.theory.specs.ProgramText.{Command, variables as variables-of};
 ghost use Rattle.theory.specs.Translation.{word-text};
 ghost use Rattle.theory.specs.TurnedDown.{word-entries};
@@ -26,9 +27,6 @@ const SOURCE_BUDGET: u32 = 100000;
 
 const WORD_BUDGET: u32 = 1000000;
 
-// Room for Machine::REGISTERS places of Machine::CAPACITY bytes.
-const STORE: usize = 65536;
-
 // How a word's run ended. A refusal does not come: a word of the translation passes every rule.
 fn of_word(ended: memory::Ended) -> Ended
     ensures { λ r. ⌜ r ≡ word-ended ended ⌝ }
@@ -42,80 +40,40 @@ fn of_word(ended: memory::Ended) -> Ended
     }
 }
 
-// The word's run, of its instructions, on a store of exactly the capacities' sum.
-fn run_in(
-    capacities: &[u16],
-    store: &mut [u8],
-    lengths: &mut [u16],
-    kinds: &[u8],
-    operands: &[u32],
-    values: &[u32],
-) -> Ended
-    requires { ⌜ IsSet (now capacities) × Starts (length (now values)) (now capacities) (now values)
-        × (length (now store) ≡ sum (now capacities)) × (length (now lengths) ≡ most-registers) ⌝ }
-    ensures { λ r. ⌜ ((p : List Command) → Accepted p → zipped (now (kinds .entry)) (now (operands .entry)) ≡ word-entries (word-text p)
-        → length (now (values .entry)) ≡ variables-of p
-        → r ≡ ended-of (word-on (now (capacities .entry)) p (values-of (now (values .entry))))) ⌝ }
+// The lengths of registers that hold the values: the variables' are the first, and the others are empty.
+fn lengths_of(values: &[u32]) -> [u16; Machine::REGISTERS]
+    requires { ⌜ (length (now values) ≤ state-values) × ((i : ℕ) → values-of (now values) i ≤ most-capacity) ⌝ }
+    ensures { λ r. ⌜ ((i : ℕ) → getD r i 0 ≡ values-of (now (values .entry)) i) ⌝ }
 {
-    Machine::fresh(capacities, &mut *store, &mut *lengths, values);
-    let at = memory::Position::fresh();
-    let run = engine::run_numbers(
-        capacities,
-        &mut *store,
-        &mut *lengths,
-        at,
-        kinds,
-        operands,
-        WORD_BUDGET,
-    );
-    let ended = run.ended;
-    of_word(ended)
+    let mut lengths = [0u16; Machine::REGISTERS];
+    let mut i: usize = 0;
+    while i < values.len() {
+        lengths[i] = values[i] as u16;
+        i += 1;
+    }
+    lengths
 }
 
-// The same on the part of a larger store that the capacities ask for.
-fn run_part(
-    capacities: &[u16],
-    store: &mut [u8],
-    lengths: &mut [u16],
-    kinds: &[u8],
-    operands: &[u32],
-    values: &[u32],
-) -> Ended
-    requires { ⌜ IsSet (now capacities) × Starts (length (now values)) (now capacities) (now values)
-        × (length (now store) ≡ 65536) × (length (now lengths) ≡ most-registers) ⌝ }
-    ensures { λ r. ⌜ ((p : List Command) → Accepted p → zipped (now (kinds .entry)) (now (operands .entry)) ≡ word-entries (word-text p)
-        → length (now (values .entry)) ≡ variables-of p
-        → r ≡ ended-of (word-on (now (capacities .entry)) p (values-of (now (values .entry))))) ⌝ }
-{
-    let places = layout::offsets(capacities);
-    let size = places[Machine::REGISTERS];
-    run_in(
-        capacities,
-        &mut store[..size],
-        &mut *lengths,
-        kinds,
-        operands,
-        values,
-    )
-}
-
-// The same on a store of its own.
+// The word's run, on lengths alone: no instruction of a program's word appends #, and the machine can do them all, so that there always is
+// such a run.
 fn run_word(capacities: &[u16], kinds: &[u8], operands: &[u32], values: &[u32]) -> Ended
     requires { ⌜ IsSet (now capacities) × Starts (length (now values)) (now capacities) (now values) ⌝ }
     ensures { λ r. ⌜ ((p : List Command) → Accepted p → zipped (now (kinds .entry)) (now (operands .entry)) ≡ word-entries (word-text p)
         → length (now (values .entry)) ≡ variables-of p
         → r ≡ ended-of (word-on (now (capacities .entry)) p (values-of (now (values .entry))))) ⌝ }
 {
-    let mut store = [0u8; STORE];
-    let mut lengths = [0u16; Machine::REGISTERS];
-    run_part(
-        capacities,
-        &mut store,
-        &mut lengths,
-        kinds,
-        operands,
-        values,
-    )
+    let mut lengths = lengths_of(values);
+    let at = memory::Position::fresh();
+    match counts::run(capacities, &mut lengths, at, kinds, operands, WORD_BUDGET) {
+        Counted::Ran(run) => {
+            let ended = run.ended;
+            of_word(ended)
+        }
+        Counted::Other => Ended {
+            end: End::Spent,
+            steps: 0,
+        },
+    }
 }
 
 // How a source's run ended. A refusal does not come: a fresh state of values within the capacity passes rule 9.
