@@ -22,7 +22,8 @@ use Rattle.printing.specs.Lines.{Few, row-line, refusal-line}
 use Rattle.theory.proofs.Faults.{none-first, none-second}
 use Rattle.capacities.specs.Room.{of-variables}
 use Rattle.capacities.proofs.Cells.{variables-at}
-use Rattle.report_text.specs.Rows.{row-of, Roomy, program-report, Printed}
+use Rattle.report_text.specs.Rows.{row-of, Roomy, program-report}
+use Rattle.report_text.specs.Printed.{Printed}
 use Rattle.sheet.proofs.Alike.{sheet-alike}
 
 pub shown-row : (s : Outcome S.State) (w : Outcome W.State) → row-line (row-of s w) ≡ shown s w

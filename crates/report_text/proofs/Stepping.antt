@@ -20,7 +20,8 @@ use Rattle.output.specs.Puts.{most, Put}
 use Rattle.printing.specs.Lines.{row-line}
 use Rattle.report_text.specs.Fresh.{values-of, Starts}
 use Rattle.capacities.specs.Room.{of-variables}
-use Rattle.report_text.specs.Rows.{Ready, Given, Ran, Printed}
+use Rattle.report_text.specs.Rows.{Ready, Given, Ran}
+use Rattle.report_text.specs.Printed.{Printed}
 use Rattle.output.proofs.Puts.{put-then}
 use Rattle.printing.proofs.Lengths.{row-short}
 use Rattle.report_text.proofs.Reading.{listed-few}

@@ -2,7 +2,7 @@
 use mathlib.Core.Path.{_≡_}
 use mathlib.Core.Option.{none}
 use mathlib.Core.List.{List, _++_}
-use Prim.Native.Nat.{ℕ, _≤_}
+use Prim.Native.Nat.{ℕ}
 use Rattle.theory.specs.Basics.{or-else}
 use Rattle.theory.specs.Text.{Bytes, split-lines}
 use Rattle.theory.specs.ProgramText.{Command, variables, commands}
@@ -22,7 +22,6 @@ use Rattle.sheet.specs.Answers.{names-record}
 use Rattle.sheet.specs.declared.answers.Names.{Names}
 use Rattle.printing.specs.declared.Ended.{Ended}
 use Rattle.printing.specs.declared.Row.{Row}
-use Rattle.output.specs.Puts.{Put}
 use Rattle.printing.specs.Lines.{Within}
 
 -- How a run of the definitions ended, and how a run of a word or a source did. A refusal, which does not come, counts as no step
@@ -77,8 +76,3 @@ program-report capacities p sheet =
 
 abbrev pub Roomy : List ℕ → List Command → Type 0
 Roomy capacities p = or-else (capacities-fault capacities) (rule-21 (capacity-of capacities) p) ≡ none
-
--- The header and a line for each run, of 147,467 bytes at most: a sheet of 4,096 bytes has 4,095 runs at most, and a line 36 bytes
-pub record Printed (text : Bytes) (before after : Bytes) (size : ℕ) : Type 0 where
-  pub put : Put text 0 before after size
-  pub few : size ≤ 147467

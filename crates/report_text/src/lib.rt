@@ -19,7 +19,8 @@ ghost use Rattle.theory.specs.Text.{split-lines};
 ghost use Rattle.theory.specs.RunTool as RunTool;
 ghost use Rattle.theory.specs.RunTool.{header, rows-of};
 ghost use Rattle.theory.specs.ProgramText.{commands};
-ghost use Rattle.report_text.specs.Rows.{Listed, Ready, Tabled, Given, Roomy, program-report, Printed};
+ghost use Rattle.report_text.specs.Rows.{Listed, Ready, Tabled, Given, Roomy, program-report};
+ghost use Rattle.report_text.specs.Printed.{Printed};
 ghost use Rattle.report_text.specs.Fresh.{IsSet};
 
 // "Its word buffer has 65,536 bytes".
