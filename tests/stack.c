@@ -54,11 +54,24 @@ static void read_word(void)
     count = MUDZKVOPI_LOW(mudzkvopi_read_word(word, word_len, kinds, sizeof kinds, operands, MUDZKVOPI_MAX_INSTRUCTIONS));
 }
 static void write_word(void) { mudzkvopi_write_word(kinds, count, operands, count, back, sizeof back); }
-static void run_word(void) { mudzkvopi_run_word(capacities, 64, store, sizeof store, lengths, 64, &place, &steps, word, word_len, 1000); }
-static void run_table(void)
+/* A run goes on lengths where all registers hold 1s, and else on the store: the last register holds a # the second time. */
+static void on_both(void (*run)(void))
+{
+    run();
+    store[63 * 1024] = '#';
+    lengths[63] = 1;
+    place = 1;
+    run();
+    store[63 * 1024] = 0;
+    lengths[63] = 0;
+}
+static void word_run(void) { mudzkvopi_run_word(capacities, 64, store, sizeof store, lengths, 64, &place, &steps, word, word_len, 1000); }
+static void run_word(void) { on_both(word_run); }
+static void table_run(void)
 {
     mudzkvopi_run_table(capacities, 64, store, sizeof store, lengths, 64, &place, &steps, kinds, count, operands, count, 1000);
 }
+static void run_table(void) { on_both(table_run); }
 static void report_on(void)
 {
     static const char sheet[] = "X31\n5\n1024\n";
