@@ -211,7 +211,7 @@ module _ (p : List Command) (capacity : ℕ → ℕ) (s : State) (h : Stood p ca
       record {
         line = (omega arith, omega arith);
         values = h.values;
-        passes = rw P.body_Open (passes_begin capacity s.line i here s.passes (suc k) (omega arith, short) h.passes);
+        passes = rw P.body_open (passes_begin capacity s.line i here s.passes (suc k) (omega arith, short) h.passes);
       }
 
   stood_while : (c i : ℕ) → Partners p s.line c while i → (k : ℕ) → Stood p capacity (begin_while p s k)
@@ -222,7 +222,7 @@ module _ (p : List Command) (capacity : ℕ → ℕ) (s : State) (h : Stood p ca
   stood_while c i P (suc k) =
       let (low, high) = at-within p s.line (opens while i) P.open_line in
       stood_go (suc s.line) (omega arith, omega arith)
-      (rw P.body_Open (while_begins capacity s.line i here s.passes h.passes))
+      (rw P.body_open (while_begins capacity s.line i here s.passes h.passes))
 
   -- `endloop` with o for its `loop`
   stood_endloop : (o i : ℕ) → Partners p o s.line loop i → (k : ℕ) → passes_after p s ≡ k → Stood p capacity (end_loop p s k)
@@ -259,7 +259,7 @@ module _ (p : List Command) (capacity : ℕ → ℕ) (s : State) (h : Stood p ca
           record {
             line = rw P.opening_is (omega arith, omega arith);
             values = h.values;
-            passes = rw (P.opening_is, P.body_Open, inner) (passes_again capacity o i os s.passes (suc k) (fallen k e) held);
+            passes = rw (P.opening_is, P.body_open, inner) (passes_again capacity o i os s.passes (suc k) (fallen k e) held);
           }
 
   stood_endwhile : (o i : ℕ) → Partners p o s.line while i → Stood p capacity (go_to s (opening p s.line))

@@ -204,7 +204,7 @@ module _ (room : Room) (b : Block) where
         go false x =
             let ne : s.line ≢ suc (length p) = eqb-false s.line (suc (length p)) x in
             let l : s.line ≤ length p = omega (arith, M.to_end) in
-            let c : (a : Command) × (at p s.line ≡ some a) = at_there p s.line M.from_First l in
+            let c : (a : Command) × (at p s.line ≡ some a) = at_there p s.line M.from_first l in
             both_full s n M c.0 c.1 l (stuck room p s c.0 (sym (ap (λ o. and_then o (S.perform room p s)) c.1) ∙ e))
 
   -- Where every register has room for any amount, a source that has no step has halted
@@ -222,5 +222,5 @@ module _ (room : Room) (b : Block) where
       go false x =
           let ne : s.line ≢ suc (length p) = eqb-false s.line (suc (length p)) x in
           let l : s.line ≤ length p = omega (arith, M.to_end) in
-          let c : (a : Command) × (at p s.line ≡ some a) = at_there p s.line M.from_First l in
+          let c : (a : Command) × (at p s.line ≡ some a) = at_there p s.line M.from_first l in
           absurd (no c.0 (stuck room p s c.0 (sym (ap (λ o. and_then o (S.perform room p s)) c.1) ∙ e)))
