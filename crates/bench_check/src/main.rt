@@ -1,4 +1,6 @@
 // The bench examples of document 01 that are not marked P, read by the library: each text's answer, `passes` or the number and the place.
+#![tactic(auto)]
+
 use libc::STDOUT_FILENO;
 use program::Checked;
 use theory::Setting;

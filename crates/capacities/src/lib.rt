@@ -1,6 +1,8 @@
 // Capacities for a program whose word is run (document 02, request 5): rule 10 of them, and rule 21. The registers that a program's word
 // names besides those of its variables have the capacity of the largest of these; they are the scratch register, at a copy of two variables
 // and at a loop, and the counter of each loop.
+#![tactic(auto)]
+
 ghost use Rattle.std.specs.Prelude.{◌≡◌, ◌≤◌, max, length};
 ghost use Rattle.theory.specs.Machines.{capacity_of};
 ghost use Rattle.theory.specs.TurnedDown.{read_list, largest};

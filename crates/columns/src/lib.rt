@@ -1,4 +1,6 @@
 // The columns of a run sheet: the variables that they are named after, values that go to these, and values against their capacities.
+#![tactic(auto)]
+
 ghost use Rattle.std.specs.Prelude.{◌≡◌, take};
 ghost use Rattle.theory.specs.Runs.{register};
 ghost use Rattle.theory.specs.Machines.{capacity_of};

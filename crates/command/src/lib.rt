@@ -1,4 +1,6 @@
 // A command as three numbers (document 01, "The program text"), read from a line of a program's text.
+#![tactic(auto)]
+
 mod reading;
 
 pub use reading::numbers_of;

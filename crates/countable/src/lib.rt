@@ -1,4 +1,6 @@
 // Whether a table of numbers can be run on the lengths of registers that hold 1s alone.
+#![tactic(auto)]
+
 ghost use Rattle.std.specs.Prelude.{◌≡◌};
 ghost use Rattle.theory.specs.Basics.{all};
 ghost use Rattle.countable.specs.Countable.{no_2, has_counts, is_countable};

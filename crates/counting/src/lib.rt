@@ -1,5 +1,7 @@
 // Most words are made of instructions alone, which is seen by loops over the whole word that have no early end, so that many bytes are
 // tested at once: how many instructions a word has where rules 12 and 13 let it pass.
+#![tactic(auto)]
+
 ghost use Rattle.std.specs.Prelude.{◌≡◌, true, ◌≤◌, min, max, length};
 ghost use Rattle.theory.specs.Basics.{all};
 ghost use Rattle.theory.specs.Word.{is_symbol};

@@ -1,5 +1,7 @@
 // Runs of a table of numbers on registers that hold 1s alone: a register is its length, many turns of a small loop are done at once, and
 // so are rounds that lead back to where they began.
+#![tactic(auto)]
+
 mod steps; // steps.rt: one step, with the turns that begin where it leads
 mod stretches; // stretches.rt: the steps of a run, and whole rounds
 

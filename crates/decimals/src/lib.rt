@@ -1,4 +1,6 @@
 // Numbers in base 10, put into an output from a place on.
+#![tactic(auto)]
+
 ghost use Rattle.std.specs.Prelude.{[], ◌∷◌, ◌+◌, ◌%◌};
 ghost use Rattle.theory.specs.Text.{decimal};
 ghost use Rattle.output.specs.Puts.{Put};

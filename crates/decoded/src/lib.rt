@@ -1,4 +1,6 @@
 // Runs of a word that is lent decoded, as a slice of instruction records.
+#![tactic(auto)]
+
 ghost use Rattle.std.specs.Prelude.{◌≡◌, List};
 ghost use Rattle.theory.specs.Word.{Entry};
 ghost use Rattle.word.specs.Answers.{entries_of};

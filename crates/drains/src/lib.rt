@@ -1,5 +1,7 @@
 // Many turns at once of a small loop of a word, a drain, on registers that hold 1s alone, each of which is then its length. What they come
 // to by the definitions of crate `theory` is in proofs/AtOnce.antt.
+#![tactic(auto)]
+
 ghost use Rattle.std.specs.Prelude.{◌≡◌, ◌&&◌, ◌≤◌, ◌<◌, ◌+◌, ◌*◌, ◌/◌, ◌^◌, min, eqb, ltb, length, get_or};
 ghost use Rattle.theory.specs.Basics.{all};
 ghost use Rattle.theory.specs.Machines.{capacity_of};

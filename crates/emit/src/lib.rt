@@ -1,6 +1,8 @@
 // The instructions of a plain line and of the two ends of a pair (document 01, "Translation"), each put at a place of the output. What a
 // function returns is the place after its last. Indices, variables and depths are bytes, and the instructions of a body a u16, so that no
 // sum of them wraps.
+#![tactic(auto)]
+
 ghost use Rattle.std.specs.Prelude.{◌≡◌, ◌+◌};
 ghost use Rattle.theory.specs.Translation as T;
 ghost use Rattle.emit.specs.Pieces.{plain_of, looping, testing, across, front, back, Written};

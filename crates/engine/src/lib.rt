@@ -1,4 +1,6 @@
 // The text register machine on instructions as numbers: a run of a lent table on a lent store, and the rules before it.
+#![tactic(auto)]
+
 ghost use Rattle.std.specs.Prelude.{◌≡◌};
 ghost use Rattle.word.specs.Answers.{zipped};
 ghost use Rattle.memory.specs.Calls.{memory, handed, table_called};

@@ -1,4 +1,6 @@
 // A line of a run sheet: the number that each field spells, and the numbers of all.
+#![tactic(auto)]
+
 ghost use Rattle.std.specs.Prelude.{◌≡◌, ◌^◌, ◌≤◌, ◌<◌, min};
 ghost use Rattle.fields.specs.Fields.{most, spelled, all_of, field_of, numbers_of};
 ghost use Rattle.fields.specs.Fields.{under, put_in, no_numbers, line_of, with_number};

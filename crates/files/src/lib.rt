@@ -1,4 +1,6 @@
 // A file read whole into a buffer, for the programs that read program.txt and sheet.txt.
+#![tactic(auto)]
+
 ghost use Rattle.io.specs.Counts.{IsPrefixLen};
 
 // Reads a file as far as the buffer goes. One that cannot be read counts as empty.

@@ -1,4 +1,6 @@
 // What a form of a word adds after the plain one (document 02, request 2): nothing, or the clears of registers 2 to K.
+#![tactic(auto)]
+
 ghost use Rattle.std.specs.Prelude.{◌≡◌};
 ghost use Rattle.tidy.specs.Forms.{clears};
 ghost use Rattle.emit.specs.Pieces.{Written};

@@ -1,5 +1,7 @@
 // The library for the tablets' host: entries on numbers and slices, to be called from C by include/mudzkvopi.h. Each entry hands its
 // arguments on to the crate that does the work, and packs what comes back into one number.
+#![tactic(auto)]
+
 ghost use Rattle.std.specs.Prelude.{◌≡◌, length};
 ghost use Rattle.theory.specs.TurnedDown.{read_text_under, read_list_under, read_word_for, read_table_for};
 ghost use Rattle.listing.specs.Refused.{read_listing};

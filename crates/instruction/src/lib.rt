@@ -1,5 +1,7 @@
 // What a translation answers, and the one writer of instructions (document 02, request 4): each is written straight into the part of the
 // output that begins at its place.
+#![tactic(auto)]
+
 ghost use Rattle.std.specs.Prelude.{[], ◌∷◌, ◌≡◌};
 ghost use Rattle.output.specs.Puts.{starting};
 ghost use Rattle.instruction.specs.Instructions.{text, Spelt};

@@ -1,4 +1,6 @@
 // The label tool: reads program.txt, and prints the word of its program, or the refusal.
+#![tactic(auto)]
+
 ghost use Rattle.std.specs.Prelude.{◌≡◌, ◌≤◌, length};
 ghost use Rattle.output.specs.Puts.{Put};
 ghost use Rattle.label_tool.specs.Label.{label};

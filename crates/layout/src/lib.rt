@@ -1,4 +1,6 @@
 // How registers lie in a machine's store, as rule 10 of document 01 lays it down: where each has its place, and what a place holds.
+#![tactic(auto)]
+
 ghost use Rattle.std.specs.Prelude.{◌≡◌, ◌<◌, eqb, length, get_or};
 ghost use Rattle.theory.specs.Basics.{all};
 ghost use Rattle.theory.specs.Machines.{is_laid};

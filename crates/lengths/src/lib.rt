@@ -1,5 +1,7 @@
 // How long the instructions of a plain line and of the two ends of a pair are (document 01, "Translation"), without writing them. Indices,
 // variables and depths are bytes, and the instructions of a body a u16, so that no sum of them wraps.
+#![tactic(auto)]
+
 ghost use Rattle.std.specs.Prelude.{◌++◌, ◌≡◌};
 ghost use Rattle.theory.specs.Translation.{plain_code};
 ghost use Rattle.emit.specs.Pieces.{plain_of, front, back};

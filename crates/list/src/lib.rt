@@ -1,5 +1,7 @@
 // A program as a list of three numbers a command (document 01, "The program text"), checked by rules 3 to 8 and, under the LOOP-only
 // setting, 20.
+#![tactic(auto)]
+
 ghost use Rattle.std.specs.Prelude.{◌≡◌, suc, max};
 ghost use Rattle.theory.specs.TurnedDown.{read_list_under};
 ghost use Rattle.nesting.specs.Nesting.{pairs};

@@ -1,4 +1,6 @@
 // Listings as numbers, four a line (document 02, request 6): rule 3, then rules 4 and 22 line by line.
+#![tactic(auto)]
+
 ghost use Rattle.std.specs.Prelude.{◌≡◌, suc};
 ghost use Rattle.theory.specs.Machines.{is_limited};
 ghost use Rattle.listing.specs.Refused.{line_fault, lines_fault, listing_fault};

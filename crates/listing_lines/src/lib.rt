@@ -1,4 +1,6 @@
 // The lines of a listing's text (document 02, request 6), read as four numbers a line.
+#![tactic(auto)]
+
 ghost use Rattle.std.specs.Prelude.{◌≡◌, [], ◌∷◌, length};
 ghost use Rattle.theory.specs.Text.{split_lines};
 ghost use Rattle.output.specs.Puts.{Put, starting};

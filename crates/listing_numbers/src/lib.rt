@@ -1,4 +1,6 @@
 // A line of a listing (document 02, request 6), read as four numbers.
+#![tactic(auto)]
+
 ghost use Rattle.std.specs.Prelude.{◌≡◌, length, drop};
 ghost use Rattle.theory.specs.Limits.{most_registers};
 ghost use Rattle.theory.specs.Machines.{is_limited};

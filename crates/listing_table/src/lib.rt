@@ -1,4 +1,6 @@
 // The table of the word of a listing (document 02, request 6), from its numbers.
+#![tactic(auto)]
+
 mod filling;
 mod places;
 

@@ -1,5 +1,7 @@
 // Scan-and-delete listings translated (document 02, request 6): a text is read into four numbers a line and checked line by line; then the
 // table of its word is made, and written into the caller's output.
+#![tactic(auto)]
+
 ghost use Rattle.std.specs.Prelude.{◌≡◌, ◌*◌, ◌≤◌, length, take};
 ghost use Rattle.theory.specs.TurnedDown.{after, mapped, lent_after};
 ghost use Rattle.word.specs.Answers.{zipped};

@@ -1,4 +1,6 @@
 // The text register machine of document 01, "Machines of the set": runs of a word on a lent store, and one step.
+#![tactic(auto)]
+
 ghost use Rattle.std.specs.Prelude.{◌≡◌, ◌≤◌, length, take};
 ghost use Rattle.std.proofs.Math.Option.{none};
 ghost use Rattle.theory.specs.TurnedDown.{total, table_fault, for_machine};

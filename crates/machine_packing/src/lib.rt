@@ -1,5 +1,7 @@
 // Answers on words and on runs as numbers for the C host: a word read or written, a run's end and a value, packed with its counts, or its
 // refusal (specs/Answered).
+#![tactic(auto)]
+
 ghost use Rattle.std.specs.Prelude.{◌≡◌};
 ghost use Rattle.packing.specs.Packed.{pack, end_number};
 ghost use Rattle.machine_packing.specs.Answered.{word_read, word_written, source_ended, word_ended, value_read};

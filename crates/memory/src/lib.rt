@@ -1,4 +1,6 @@
 // The memory of a machine of document 01, "Machines of the set": its value, and what a run hands back.
+#![tactic(auto)]
+
 mod answers;
 
 ghost use Rattle.std.specs.Prelude.{◌≡◌};

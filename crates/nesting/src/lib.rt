@@ -1,5 +1,7 @@
 // One command under the setting and the pairs that are open (document 01, rules 4 to 7, and document 02's 20): it is at fault, or so many
 // pairs are open after it.
+#![tactic(auto)]
+
 ghost use Rattle.std.specs.Prelude.{◌≡◌, ◌+◌, ◌-◌, max, ◌&&◌, eqb, ltb};
 ghost use Rattle.theory.specs.Limits.{most_open};
 ghost use Rattle.theory.specs.ProgramText.{closes, command_of};

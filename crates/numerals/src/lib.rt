@@ -1,5 +1,7 @@
 // Numbers at a place of a text: numerals, and names with an index in digits or in primes. They are kept at a limit, so that many digits
 // never wrap.
+#![tactic(auto)]
+
 ghost use Rattle.std.specs.Prelude.{◌≡◌, ◌+◌, ◌*◌, ◌≤◌, ◌<◌, min, length, drop};
 ghost use Rattle.std.proofs.Math.Option.{some};
 ghost use Rattle.theory.specs.Text.{numeral as numeral-of, primes as primes-of, name as name_of};

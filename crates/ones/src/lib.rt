@@ -1,4 +1,6 @@
 // Registers that hold 1s alone, each of which is its length: whether a lent memory has only such, and its store laid anew from the lengths.
+#![tactic(auto)]
+
 ghost use Rattle.std.specs.Prelude.{◌≡◌, ◌-◌, min, eqb, take, replicate};
 ghost use Rattle.std.proofs.lemmas.List.Edits.{sets};
 ghost use Rattle.theory.specs.Basics.{all};

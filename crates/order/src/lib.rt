@@ -1,5 +1,7 @@
 // Registers put in order at the end of a run, inside which each one's symbols lie in a ring: they begin at the first byte of its place
 // again.
+#![tactic(auto)]
+
 ghost use Rattle.std.specs.Prelude.{◌≡◌, min};
 ghost use Rattle.order.specs.Order.{turned, in_order};
 

@@ -1,4 +1,6 @@
 // Bytes put into an output from a place on, and the place after them. A byte that has no place in the output is not written, but counted.
+#![tactic(auto)]
+
 ghost use Rattle.std.specs.Prelude.{◌≡◌, [], ◌∷◌, ◌+◌, ◌-◌, ◌≤◌, length, take};
 ghost use Rattle.std.proofs.lemmas.List.Edits.{sets};
 ghost use Rattle.output.specs.Puts.{place, Put};

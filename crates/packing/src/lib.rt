@@ -1,5 +1,7 @@
 // Numbers for the C host (specs/Packed). A setting and a form are told by one each, and an answer is one: what came of a call, with its
 // counts, or with a refusal's number and place.
+#![tactic(auto)]
+
 ghost use Rattle.std.specs.Prelude.{◌≡◌};
 ghost use Rattle.packing.specs.Packed.{setting_of, form_of, pack};
 

@@ -1,4 +1,6 @@
 // Which of two rules turns a run down: rule 10, on the lent memory, goes before those on the word or the table.
+#![tactic(auto)]
+
 ghost use Rattle.std.specs.Prelude.{◌≡◌};
 ghost use Rattle.memory.specs.Calls.{memory, refused_at, after_10};
 

@@ -1,5 +1,7 @@
 // The parts of the report, each put into an output from a place on. A byte that has no place in the output is counted and not written,
 // so that an output without a byte serves to measure.
+#![tactic(auto)]
+
 ghost use Rattle.theory.specs.RunTool.{end_name, header};
 ghost use Rattle.output.specs.Puts.{Put};
 ghost use Rattle.printing.specs.Lines.{Few, field, ended, row_line, refusal_line};

@@ -1,5 +1,7 @@
 // Programs as text (document 01, "The program text"): read into a list of three numbers a command, by rules 1 to 8 and 20, and written from
 // one.
+#![tactic(auto)]
+
 mod lines; // lines.rt: the three numbers of every line
 mod spell; // spell.rt: the text of a list
 

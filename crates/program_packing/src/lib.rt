@@ -1,5 +1,7 @@
 // Answers on programs as numbers for the C host: a program read, written or translated, packed with its counts, or its refusal
 // (specs/Answered).
+#![tactic(auto)]
+
 ghost use Rattle.std.specs.Prelude.{◌≡◌};
 ghost use Rattle.program_packing.specs.Answered.{program_read, program_written, translated};
 

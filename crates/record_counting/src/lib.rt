@@ -1,4 +1,6 @@
 // What is counted of a lent slice of records, and of an answer on one.
+#![tactic(auto)]
+
 ghost use Rattle.std.specs.Prelude.{◌≡◌};
 ghost use Rattle.word.specs.Answers.{entries_of};
 ghost use Rattle.tally.specs.Tallies.{tally_of};

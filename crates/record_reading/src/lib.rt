@@ -1,5 +1,7 @@
 // A word read into a lent slice of records: thin functions over those on numbers. The one that has the records in hand is free of
 // branches: where a rule turns the word down, the count handed to it is 0.
+#![tactic(auto)]
+
 ghost use Rattle.std.specs.Prelude.{◌≡◌};
 ghost use Rattle.word.specs.Answers.{read_answer};
 ghost use Rattle.record_reading.specs.Answers.{ReadsTable};

@@ -1,5 +1,7 @@
 // A lent slice of records written as a word: thin functions over those on numbers. The one that has the records in hand is free of
 // branches: where a rule turns the table down, the count handed to it is 0.
+#![tactic(auto)]
+
 ghost use Rattle.std.specs.Prelude.{◌≡◌, [], ◌∷◌, ◌≤◌, length, take};
 ghost use Rattle.output.specs.Puts.{starting};
 ghost use Rattle.instruction.specs.Instructions.{text, Spelt};

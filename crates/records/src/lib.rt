@@ -1,5 +1,7 @@
 // Instruction tables as lent slices of records: read from a word, written as one, and, here, gathered as numbers. Each function that has
 // the records in hand is thin and free of branches: where a rule turns its input down, the count handed to it is 0.
+#![tactic(auto)]
+
 ghost use Rattle.std.specs.Prelude.{◌≡◌, ◌≤◌, length};
 ghost use Rattle.word.specs.Answers.{entries_of};
 ghost use Rattle.records.specs.Answers.{gathered};

@@ -1,4 +1,6 @@
 // The registers of a machine of document 01, "Machines of the set": their limits, and those of a fresh word laid out in a lent memory.
+#![tactic(auto)]
+
 mod fresh;
 
 ghost use Rattle.rule10.specs.Lent.{memory};

@@ -1,5 +1,7 @@
 // The run tool's text for a lent output (document 01, "Run sheet and run tool"): from a program's text and a sheet's to the whole of what
 // is printed; and the same on registers of other capacities (document 02, request 5).
+#![tactic(auto)]
+
 ghost use Rattle.std.specs.Prelude.{◌≡◌};
 ghost use Rattle.theory.specs.TurnedDown.{lent_after};
 ghost use Rattle.theory.specs.RunTool.{tool_capacities};

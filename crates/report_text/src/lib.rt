@@ -1,5 +1,7 @@
 // The run tool's text (document 01, "Run sheet and run tool") on registers of any capacities (document 02, request 5), put from the first
 // byte of an output on: from a program's text and a sheet's to the whole of what is printed.
+#![tactic(auto)]
+
 mod rows; // rows.rt: the runs of a row
 
 ghost use Rattle.std.specs.Prelude.{◌++◌};

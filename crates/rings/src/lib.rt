@@ -1,4 +1,6 @@
 // Runs of a table of numbers whose instructions the machine can do, on a lent store.
+#![tactic(auto)]
+
 mod effect;
 mod runs;
 mod store;

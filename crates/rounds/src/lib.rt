@@ -1,4 +1,6 @@
 // For a run that may come back to where it was: lengths laid aside, whether they are the same again, and whole rounds of what lies between.
+#![tactic(auto)]
+
 ghost use Rattle.std.specs.Prelude.{◌≡◌, ◌*◌, ◌/◌, get_or};
 ghost use Rattle.theory.specs.Basics.{cells};
 ghost use Rattle.theory.specs.Text.{same};

@@ -1,4 +1,6 @@
 // Rule 10 of document 01: each register's capacity, the lent store and its lengths.
+#![tactic(auto)]
+
 ghost use Rattle.std.specs.Prelude.{◌≡◌, length};
 ghost use Rattle.theory.specs.Basics.{all};
 ghost use Rattle.theory.specs.Limits.{most_capacity};

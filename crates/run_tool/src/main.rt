@@ -1,4 +1,6 @@
 // The run tool (document 01, "Run sheet and run tool"): reads program.txt and sheet.txt, and prints their report.
+#![tactic(auto)]
+
 use files::read_file;
 use libc::STDOUT_FILENO;
 use report::Reported;

@@ -1,6 +1,8 @@
 // A run of a table of numbers, by one of two loops. Where no instruction appends # and every register holds 1s alone, as with every word of
 // a program on fresh registers, a register is its length: the run goes on lengths, many turns of a small loop at once, and the store is
 // written at its end. Any other goes step by step on the store.
+#![tactic(auto)]
+
 ghost use Rattle.std.specs.Prelude.{◌≡◌, true, ◌&&◌};
 ghost use Rattle.theory.specs.Basics.{all};
 ghost use Rattle.word.specs.Answers.{zipped};

@@ -1,5 +1,7 @@
 // Run sheets (document 01, "Run sheet and run tool"): a sheet checked against a program by rules 16 to 18, and a line of values read into
 // what a run starts at.
+#![tactic(auto)]
+
 mod answers; // answers.rt: what the entries take and hand back
 
 ghost use Rattle.std.specs.Prelude.{◌≡◌, [], ◌≤◌, min, length, take, drop};

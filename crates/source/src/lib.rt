@@ -1,5 +1,7 @@
 // The source interpreter of document 01 ("The program text", "Machines of the set"): a program, as text or as a list of three numbers a
 // command, run from a state with a budget. Rules 1 to 8 (3 to 8 for a list), then 9.
+#![tactic(auto)]
+
 mod lines; // lines.rt: where the lines of pairs lead
 mod rule9; // rule9.rt: whether a state is one of the program's
 mod steps; // steps.rt: a step, and the steps of a run

@@ -1,5 +1,7 @@
 // The state of a source and what a run of one hands back, as types with their limits (document 01, "Machines of the set"); the fresh state;
 // what a step does to the numbers of a state, and rule 9 of each of them.
+#![tactic(auto)]
+
 mod rule9; // rule9.rt: rule 9 of one number
 mod step; // step.rt: what a step does, by numbers
 

@@ -1,4 +1,6 @@
 // The three numbers of a command, written as its line (document 01, "The program text"); a kind that is none is taken as the last.
+#![tactic(auto)]
+
 ghost use Rattle.std.specs.Prelude.{◌≡◌, ◌++◌, ◌+◌, ◌≤◌, length};
 ghost use Rattle.theory.specs.Text.{name_of};
 ghost use Rattle.output.specs.Puts.{Put};

@@ -1,4 +1,6 @@
 // How long the line of a command is (document 01, "The program text"), by its three numbers; a kind that is none is taken as the last.
+#![tactic(auto)]
+
 ghost use Rattle.std.specs.Prelude.{◌≡◌, ◌≤◌, length};
 ghost use Rattle.theory.specs.Text.{name_of};
 ghost use Rattle.spelling_sizes.specs.Spellings.{command_line};

@@ -1,4 +1,6 @@
 // A source's state as numbers in one slice: the capacities, line, steps, then the values, then the passes-left.
+#![tactic(auto)]
+
 ghost use Rattle.std.specs.Prelude.{◌≡◌, length};
 ghost use Rattle.state_numbers.specs.Numbers.{lent_state, kept_numbers};
 

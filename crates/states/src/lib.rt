@@ -1,4 +1,6 @@
 // Runs of a source from a state that is lent as numbers in one slice, in which the state afterwards then stands.
+#![tactic(auto)]
+
 ghost use Rattle.theory.specs.TurnedDown.{read_text_under, read_list_under};
 ghost use Rattle.states.specs.Numbers.{RunsLent};
 

@@ -1,4 +1,6 @@
 // Instruction tables as two slices of numbers, kinds and operands: checked, and written as words.
+#![tactic(auto)]
+
 mod checking;
 mod numbers;
 mod writing;

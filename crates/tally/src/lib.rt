@@ -1,5 +1,7 @@
 // What is counted of a table, entry by entry, and what is answered by it: rules 11, 13 and 14, with entries as places, and 19. No count
 // wraps, so that a table may be of any length.
+#![tactic(auto)]
+
 ghost use Rattle.std.specs.Prelude.{◌≡◌, ◌+◌, min};
 ghost use Rattle.theory.specs.Machines.{is_limited};
 ghost use Rattle.tally.specs.Tallies.{is_good, longest, noted, judged, answered};

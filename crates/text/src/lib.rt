@@ -1,5 +1,7 @@
 // What stands at a place of a text: how far a run goes, where a line ends, a word. A place past the end has nothing at it. And whether a
 // text has ended, and whether bytes are the symbols of a word.
+#![tactic(auto)]
+
 ghost use Rattle.std.specs.Prelude.{◌≡◌, ◌||◌, ◌+◌, ◌-◌, eqb, length, drop};
 ghost use Rattle.theory.specs.Basics.{all};
 ghost use Rattle.theory.specs.Text.{LF, ends_in_LF, following};

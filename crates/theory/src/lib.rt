@@ -1,4 +1,5 @@
 // The plain types that every crate shares. All else of this crate is in specs/ (the definitions and the claims) and proofs/ (the theorems).
+#![tactic(auto)]
 
 // Why a call turned its input down: the number of the rule of document 01, and the place that the rule names.
 #[derive(Drop)]

@@ -1,5 +1,7 @@
 // Translation of a program into its 1# word (document 01, "Translation"), plain or tidy. The sizes come first, by a walk over the program;
 // then each symbol of the word is written once, straight into the caller's output.
+#![tactic(auto)]
+
 mod lines;
 mod sizes;
 mod writing;

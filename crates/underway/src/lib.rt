@@ -1,5 +1,7 @@
 // Where a run of a table stands between its steps: its place as a number, how many steps it may do, and how it ends. What runs on rings and
 // runs on lengths share.
+#![tactic(auto)]
+
 ghost use Rattle.std.specs.Prelude.{◌≡◌, ◌<◌, ◌^◌, min, pos, neg_ℤ};
 ghost use Rattle.memory.specs.Calls.{stands_outside};
 ghost use Rattle.underway.specs.Places.{number_of, entry_of, placed, most_place};

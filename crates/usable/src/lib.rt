@@ -1,4 +1,6 @@
 // Which entries of a table of numbers a machine can do: what a run needs of a table, whatever was checked of it before.
+#![tactic(auto)]
+
 ghost use Rattle.std.specs.Prelude.{◌≡◌, min};
 ghost use Rattle.theory.specs.Machines.{is_limited};
 ghost use Rattle.word.specs.Answers.{zipped};
