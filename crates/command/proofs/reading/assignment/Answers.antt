@@ -1,0 +1,52 @@
+-- `command::assignment` meets its contract: a name, and ` <- 0` or an arrow after it.
+use mathlib.Core.Path.{◌∙◌, sym}
+use Rattle.command.proofs.LineNumbers.{name_there, assignment_no_name, assignment_clear, assignment_no_arrow}
+use Rattle.command.proofs.LineNumbers.{assignment_room, assignment-from}
+use Rattle.command.proofs.reading.assignment.Goals as goal
+
+pub returns-then-ends : goal.returns-then-ends
+returns-then-ends c =
+    
+    
+    let a = c.args in
+    let n = name_there a.s.now 0 c.name.ensures c.end-1.is in
+    c.numbers.ensures ∙ assignment_clear a.s.now n (sym c.ends.ensures ∙ c.if-ends.true)
+
+pub assigned-requires : goal.assigned-requires
+assigned-requires c =
+    
+    
+    
+    
+    let a = c.args in
+    let n = name_there a.s.now 0 c.name.ensures c.end-1.is in
+    assignment_room a.s.now n (sym c.ends.ensures ∙ c.if-ends.false)
+    (sym c.stands.ensures ∙ c.if-stands.true)
+
+pub returns-then-stands : goal.returns-then-stands
+returns-then-stands c =
+    
+    
+    
+    
+    
+    let a = c.args in
+    let n = name_there a.s.now 0 c.name.ensures c.end-1.is in
+    c.assigned.ensures n.value n.is n.kept
+    ∙ assignment-from a.s.now n (sym c.ends.ensures ∙ c.if-ends.false)
+    (sym c.stands.ensures ∙ c.if-stands.true)
+
+pub returns-else-stands : goal.returns-else-stands
+returns-else-stands c =
+    
+    
+    
+    
+    let a = c.args in
+    let n = name_there a.s.now 0 c.name.ensures c.end-1.is in
+    assignment_no_arrow a.s.now n (sym c.ends.ensures ∙ c.if-ends.false)
+    (sym c.stands.ensures ∙ c.if-stands.false)
+
+pub returns-in-No : goal.returns-in-No
+returns-in-No c = let a = c.args in
+    assignment_no_name a.s.now c.name.ensures c.enum_told-1.is

@@ -1,0 +1,41 @@
+-- `command::pair_line` meets its contract: the front word, a name and the back word, each found or not.
+use mathlib.Core.Path.{◌∙◌, sym}
+use lib.ListN.{length}
+use Rattle.command.proofs.LineNumbers.{name_there, pair_no_front, pair_no_name, pair-back, pair_no_back}
+use Rattle.command.proofs.reading.pair_line.Goals as goal
+
+pub returns-then-ends : goal.returns-then-ends
+returns-then-ends c =
+    
+    
+    
+    
+    let a = c.args in
+    let front = sym c.stands.ensures ∙ c.if-stands.true in
+    c.numbers.ensures
+    ∙ pair-back a.kind a.front.now a.back.now a.s.now front
+    (name_there a.s.now (length a.front.now) c.name.ensures c.end-1.is)
+    (sym c.ends.ensures ∙ c.if-ends.true)
+
+pub returns-else-ends : goal.returns-else-ends
+returns-else-ends c =
+    
+    
+    
+    
+    let a = c.args in
+    pair_no_back a.kind a.front.now a.back.now a.s.now (sym c.stands.ensures ∙ c.if-stands.true)
+    (name_there a.s.now (length a.front.now) c.name.ensures c.end-1.is)
+    (sym c.ends.ensures ∙ c.if-ends.false)
+
+pub returns-in-No : goal.returns-in-No
+returns-in-No c =
+    
+    
+    let a = c.args in
+    pair_no_name a.kind a.front.now a.back.now a.s.now (sym c.stands.ensures ∙ c.if-stands.true)
+    c.name.ensures c.enum_told-1.is
+
+pub returns-else-stands : goal.returns-else-stands
+returns-else-stands c = let a = c.args in
+    pair_no_front a.kind a.front.now a.back.now a.s.now (sym c.stands.ensures ∙ c.if-stands.false)
