@@ -1,30 +1,28 @@
 // The bench examples of document 01 that are not marked P, read by the library: each text's answer, `passes` or the number and the place.
 #![tactic(auto)]
 
-use libc::STDOUT_FILENO;
 use program::Checked;
+use std::io;
 use theory::Setting;
 
-fn answer(text: &[u8]) {
+fn answer(rt: &impl Print, text: &[u8]) -> io::Result<()> {
     let mut list = [0u8; 1536];
     match program::read(Setting::Any, text, &mut list) {
-        Checked::Accepted(_) => {
-            io::write_all(STDOUT_FILENO, b"passes\n");
-        }
+        Checked::Accepted(_) => println!(rt; "passes"),
         Checked::Refused(r) => {
-            io::print_decimal(STDOUT_FILENO, r.number as u64);
-            io::write_all(STDOUT_FILENO, b" ");
-            io::print_decimal(STDOUT_FILENO, r.place as u64);
-            io::write_all(STDOUT_FILENO, b"\n");
+            let number = r.number;
+            let place = r.place;
+            println!(rt; "{number} {place}")
         }
     }
 }
 
 // The answer to the first so many bytes of a text.
-fn answer_first(text: &[u8], end: usize) {
+fn answer_first(rt: &impl Print, text: &[u8], end: usize) -> io::Result<()> {
     if end <= text.len() {
-        answer(&text[..end]);
+        answer(rt, &text[..end])?;
     }
+    Ok(())
 }
 
 // The line `X0 <- 0`, 513 times.
@@ -39,12 +37,12 @@ fn many_lines() -> [u8; 4104] {
     text
 }
 
-fn main() {
-    answer(b"X31 <- 0\n");
-    answer(b"X32 <- 0\n");
-    answer(b"X07 <- 0\n");
-    answer(b"X3 <- X4 + 1\n");
+fn main(rt: HostRuntime) -> io::Result<()> {
+    answer(&rt, b"X31 <- 0\n")?;
+    answer(&rt, b"X32 <- 0\n")?;
+    answer(&rt, b"X07 <- 0\n")?;
+    answer(&rt, b"X3 <- X4 + 1\n")?;
     let text = many_lines();
-    answer_first(&text, 512 * 8);
-    answer_first(&text, 513 * 8);
+    answer_first(&rt, &text, 512 * 8)?;
+    answer_first(&rt, &text, 513 * 8)
 }

@@ -1,17 +1,33 @@
 // A file read whole into a buffer, for the programs that read program.txt and sheet.txt.
 #![tactic(auto)]
 
-ghost use Rattle.io.specs.Counts.{IsPrefixLen};
+ghost use Rattle.std.specs.Counts.{IsPrefixLen};
+
+use std::fs::File;
+use std::io::Read;
+use std::rt::Files;
 
 // Reads a file as far as the buffer goes. One that cannot be read counts as empty.
-pub fn read_file(path: &[u8], buffer: &mut [u8]) -> usize
+pub fn read_file(rt: &impl Files, path: &str, buffer: &mut [u8]) -> usize
     ensures { IsPrefixLen result buffer.new }
 {
-    let file = os::open_read(path);
-    if file < 0 {
+    let Ok(mut file) = File::open(rt, path) else {
         return 0;
+    };
+    read_full(&mut file, buffer)
+}
+
+// Reads until the buffer is full, the input ends or a read fails, and says how many bytes it put at the start.
+fn read_full(input: &mut impl Read, buffer: &mut [u8]) -> usize
+    ensures { IsPrefixLen result buffer.new }
+{
+    let mut done = 0;
+    while done < buffer.len() {
+        match input.read(&mut buffer[done..]) {
+            Ok(0) => break,
+            Ok(n) => done += n,
+            Err(_) => break,
+        }
     }
-    let n = io::read_full(file, buffer);
-    libc::close(file);
-    n
+    done
 }

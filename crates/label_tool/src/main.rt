@@ -6,9 +6,9 @@ ghost use Rattle.output.specs.Puts.{Put};
 ghost use Rattle.label_tool.specs.Label.{label};
 
 use files::read_file;
-use libc::STDOUT_FILENO;
 use output::put_byte;
 use printing::put_refusal;
+use std::io;
 use theory::Setting;
 use tidy::Form;
 use translation::Translated;
@@ -26,10 +26,10 @@ fn put_label(text: &[u8], out: &mut [u8]) -> usize
 }
 
 // The buffer has one byte more than the limit of a text, so that a file over the limit is seen to be.
-fn main() {
+fn main(rt: HostRuntime) -> io::Result<()> {
     let mut text = [0u8; 16385];
     let mut out = [0u8; 600001];
-    let t = read_file(b"program.txt", &mut text);
+    let t = read_file(&rt, "program.txt", &mut text);
     let n = put_label(&text[..t], &mut out);
-    io::write_all(STDOUT_FILENO, &out[..n]);
+    rt.write_all(&out[..n])
 }

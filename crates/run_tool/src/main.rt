@@ -2,20 +2,18 @@
 #![tactic(auto)]
 
 use files::read_file;
-use libc::STDOUT_FILENO;
 use report::Reported;
+use std::io;
 
 // Each buffer has one byte more than its limit, so that a file over the limit is seen to be.
-fn main() {
+fn main(rt: HostRuntime) -> io::Result<()> {
     let mut text = [0u8; 16385];
     let mut sheet = [0u8; 4097];
     let mut out = [0u8; Reported::MOST];
-    let t = read_file(b"program.txt", &mut text);
-    let s = read_file(b"sheet.txt", &mut sheet);
+    let t = read_file(&rt, "program.txt", &mut text);
+    let s = read_file(&rt, "sheet.txt", &mut sheet);
     match report::report(&text[..t], &sheet[..s], &mut out) {
-        Reported::Done(n) => {
-            io::write_all(STDOUT_FILENO, &out[..n]);
-        }
-        Reported::Refused(_) => {}
+        Reported::Done(n) => rt.write_all(&out[..n]),
+        Reported::Refused(_) => Ok(()),
     }
 }

@@ -1,13 +1,8 @@
 -- `named_columns` meets its contract. The loop's invariant: the numbers from `k` on fit together, are marked and are kept. `k` falls.
-use mathlib.Core.List.{List}
-use Prim.Native.Nat.{ℕ, ◌≤◌}
+use Prim.Native.Nat.{◌≤◌}
 use lib.ListN.{take}
 use Rattle.columns.proofs.Seen.{Seen}
 use Rattle.columns.proofs.named_columns.Given as goal
-
--- The first `count` numbers, and the number at the place before `k`
-abbrev l : (c : In-loop-k) → List ℕ
-l c = take c.args.count c.args.t1
 
 abbrev pub invariant-loop-k : goal.invariant-loop-k
 invariant-loop-k l = (l.k ≤ l.count) × Seen (take l.count l.numbers) l.k l.seen l.variables

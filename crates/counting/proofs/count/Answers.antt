@@ -1,7 +1,6 @@
 -- `count` meets its contract: a word that passes all tests plainly passes, and one that fails one of them does not.
 use mathlib.Core.Path.{sym, ◌∙◌}
 use native.Mathlib.Omega.{arith}
-use borrow.Author.Tests.{not-true, not-false}
 use Rattle.counting.proofs.Flags.{not_both}
 use Rattle.counting.proofs.Symbols.{known_of_all, all_of_known}
 use Rattle.counting.proofs.Rising.{rises_below}
@@ -21,12 +20,12 @@ pub returns-then-not-are_symbols : goal.returns-then-not-are_symbols
 returns-then-not-are_symbols c =
     let w = c.args.word.now in
     sym (other_count w
-    (λ p. not_both _ (c.are_symbols.ensures ∙ all_of_known w p.known) (not-true _ c.if-not-are_symbols.true)))
+    (λ p. not_both _ (c.are_symbols.ensures ∙ all_of_known w p.known) c.if-not-are_symbols.true))
 
 pub returns-then-not-few_hashes : goal.returns-then-not-few_hashes
 returns-then-not-few_hashes c =
     let w = c.args.word.now in
-    sym (other_count w (λ p. not_both _ (c.few_hashes.ensures ∙ p.sixless) (not-true _ c.if-not-few_hashes.true)))
+    sym (other_count w (λ p. not_both _ (c.few_hashes.ensures ∙ p.sixless) c.if-not-few_hashes.true))
 
 pub overflow_add-result : goal.overflow_add-result
 overflow_add-result c =
@@ -35,16 +34,12 @@ overflow_add-result c =
 
 pub returns : goal.returns
 returns c =
-    
-    
-    
-    
     let w = c.args.word.now in
-    let all = sym c.are_symbols.ensures ∙ not-false _ c.if-not-are_symbols.false in
+    let all = sym c.are_symbols.ensures ∙ c.if-not-are_symbols.false in
     let plain : Plain w = record {
       starts = c.if-word-ne49.false;
       ends = c.if-word-size-ne35.false;
-      (goal.at.returns few).Else-not-are_symbols = known_of_all w all;
-      sixless = sym c.few_hashes.ensures ∙ not-false _ c.if-not-few_hashes.false;
+      known = known_of_all w all;
+      sixless = sym c.few_hashes.ensures ∙ c.if-not-few_hashes.false;
     } in
     omega (arith, c.rises.ensures, plain_count w (omega arith) plain)

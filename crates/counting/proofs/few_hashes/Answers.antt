@@ -1,6 +1,6 @@
+-- `few_hashes` meets its contract: the largest of six bytes says whether the flag falls, and no six are left at the end.
 use mathlib.Core.Path.{◌≡◌, sym, subst, ◌∙◌}
 use mathlib.Core.Bool.{true}
-use mathlib.Core.Logic.{⊎_elim}
 use Prim.Native.Nat.{ℕ, ◌+◌, ◌≤◌, ◌<◌}
 use native.Mathlib.Omega.{arith}
 use lib.ListN.{length, drop, length-drop}
@@ -11,19 +11,14 @@ use Rattle.counting.proofs.Flags.{flag_kept, flag_fallen, flag_last}
 use Rattle.counting.proofs.Symbols.{known_of_all}
 use Rattle.counting.proofs.Hashes.{top_is, sixless_at, few_at, many_at, sixless_short}
 use Rattle.counting.proofs.few_hashes.Goals as goal
+use Rattle.counting.proofs.few_hashes.Goals.{else-larger-lt49, then-larger-lt49}
 
 pub returns-then-word-lt6 : goal.returns-then-word-lt6
 returns-then-word-lt6 c = sym (sixless_short c.args.word.now (omega (arith, c.if-word-lt6.true)))
 
 pub loop-i-preserved : goal.loop-i-preserved
 loop-i-preserved c =
-    
-    
-    
-    
-    
     let l = c.loop-i in
-    
     let word = c.args.word.now in
     let is = top_is word l.i _ _ _ _ _ c.larger-first.ensures c.larger-second.ensures c.larger-third.ensures
     c.larger.ensures c.larger-in-loop-i.ensures in
@@ -33,12 +28,12 @@ loop-i-preserved c =
     let rest = is_sixless (drop (l.i + 1) word) in
     let known = known_of_all word c.requires in (
       omega arith,
-      ⊎_elim
-          (λ w. rw w.1 (l.invariant.1 ∙ rw at (flag_fallen l.ok test rest (many_at word l.i known here
-          (subst (λ (m : ℕ). m < 49) is w.0.taken)))))
-          (λ w. rw w.1 (l.invariant.1 ∙ rw at (flag_kept l.ok test rest (few_at word l.i
-          (subst (λ (m : ℕ). 49 ≤ m) is w.0.left)))))
-          c.if-larger-lt49.branch,
+      (elim c.if-larger-lt49.branch [
+        | then-larger-lt49 w ↦ rw w.ok-is (l.invariant.1 ∙ rw at (flag_fallen l.ok test rest (many_at word l.i known here
+            (subst (λ (m : ℕ). m < 49) is w.if-larger-lt49.true))))
+        | else-larger-lt49 w ↦ rw w.ok-is (l.invariant.1 ∙ rw at (flag_kept l.ok test rest (few_at word l.i
+            (subst (λ (m : ℕ). 49 ≤ m) is w.if-larger-lt49.false))))
+      ]),
     )
 
 pub returns : goal.returns

@@ -10,7 +10,7 @@ pub returns-then-s-last : goal.returns-then-s-last
 returns-then-s-last c =
     
     let a = c.args in
-    let n = name_there a.s.now (a.end + 4) c.name.ensures c.last-1.is in
+    let n = name_there a.s.now (a.end + 4) c.name.ensures c.in-To.is in
     λ i f g. c.numbers.ensures ∙ assigned_copy (name-first a.s.now a.end i (omega arith) f g) n c.if-s-last.true
 
 pub are_one-requires : goal.are_one-requires
@@ -18,7 +18,7 @@ are_one-requires c =
     
     
     let a = c.args in
-    let n = name_there a.s.now (a.end + 4) c.name.ensures c.last-1.is in
+    let n = name_there a.s.now (a.end + 4) c.name.ensures c.in-To.is in
     (omega arith, (name_room (omega arith) n, n.within))
 
 pub returns-then-are_one : goal.returns-then-are_one
@@ -27,7 +27,7 @@ returns-then-are_one c =
     
     
     let a = c.args in
-    let n = name_there a.s.now (a.end + 4) c.name.ensures c.last-1.is in
+    let n = name_there a.s.now (a.end + 4) c.name.ensures c.in-To.is in
     λ i f g. c.numbers-then-are_one.ensures
     ∙ assigned_increment (name-first a.s.now a.end i (omega arith) f g) n (omega arith) (omega arith) (omega arith)
     (sym c.ends.ensures ∙ c.if-ends.true)
@@ -39,7 +39,7 @@ returns-else-are_one c =
     
     
     let a = c.args in
-    let n = name_there a.s.now (a.end + 4) c.name.ensures c.last-1.is in
+    let n = name_there a.s.now (a.end + 4) c.name.ensures c.in-To.is in
     λ i f g. assigned_other (name-first a.s.now a.end i (omega arith) f g) n (omega arith) (omega arith) (omega arith)
     (sym c.ends.ensures ∙ c.if-ends.true)
     (sym c.are_one.ensures ∙ c.if-are_one.false)
@@ -49,7 +49,7 @@ returns-else-ends c =
     
     
     let a = c.args in
-    let n = name_there a.s.now (a.end + 4) c.name.ensures c.last-1.is in
+    let n = name_there a.s.now (a.end + 4) c.name.ensures c.in-To.is in
     λ i f g. assigned_no_back (name-first a.s.now a.end i (omega arith) f g) n (omega arith)
     (sym c.ends.ensures ∙ c.if-ends.false)
 
@@ -57,4 +57,4 @@ pub returns-in-No : goal.returns-in-No
 returns-in-No c =
     let a = c.args in
     λ i f g. assigned_no_name (name-first a.s.now a.end i (omega arith) f g) c.name.ensures
-    c.enum_told-1.is
+    c.in-No.is

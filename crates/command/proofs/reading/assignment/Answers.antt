@@ -9,7 +9,7 @@ returns-then-ends c =
     
     
     let a = c.args in
-    let n = name_there a.s.now 0 c.name.ensures c.end-1.is in
+    let n = name_there a.s.now 0 c.name.ensures c.in-To.is in
     c.numbers.ensures ∙ assignment_clear a.s.now n (sym c.ends.ensures ∙ c.if-ends.true)
 
 pub assigned-requires : goal.assigned-requires
@@ -19,7 +19,7 @@ assigned-requires c =
     
     
     let a = c.args in
-    let n = name_there a.s.now 0 c.name.ensures c.end-1.is in
+    let n = name_there a.s.now 0 c.name.ensures c.in-To.is in
     assignment_room a.s.now n (sym c.ends.ensures ∙ c.if-ends.false)
     (sym c.stands.ensures ∙ c.if-stands.true)
 
@@ -31,7 +31,7 @@ returns-then-stands c =
     
     
     let a = c.args in
-    let n = name_there a.s.now 0 c.name.ensures c.end-1.is in
+    let n = name_there a.s.now 0 c.name.ensures c.in-To.is in
     c.assigned.ensures n.value n.is n.kept
     ∙ assignment-from a.s.now n (sym c.ends.ensures ∙ c.if-ends.false)
     (sym c.stands.ensures ∙ c.if-stands.true)
@@ -43,10 +43,10 @@ returns-else-stands c =
     
     
     let a = c.args in
-    let n = name_there a.s.now 0 c.name.ensures c.end-1.is in
+    let n = name_there a.s.now 0 c.name.ensures c.in-To.is in
     assignment_no_arrow a.s.now n (sym c.ends.ensures ∙ c.if-ends.false)
     (sym c.stands.ensures ∙ c.if-stands.false)
 
 pub returns-in-No : goal.returns-in-No
 returns-in-No c = let a = c.args in
-    assignment_no_name a.s.now c.name.ensures c.enum_told-1.is
+    assignment_no_name a.s.now c.name.ensures c.in-No.is

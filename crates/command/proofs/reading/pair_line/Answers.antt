@@ -14,7 +14,7 @@ returns-then-ends c =
     let front = sym c.stands.ensures ∙ c.if-stands.true in
     c.numbers.ensures
     ∙ pair-back a.kind a.front.now a.back.now a.s.now front
-    (name_there a.s.now (length a.front.now) c.name.ensures c.end-1.is)
+    (name_there a.s.now (length a.front.now) c.name.ensures c.in-To.is)
     (sym c.ends.ensures ∙ c.if-ends.true)
 
 pub returns-else-ends : goal.returns-else-ends
@@ -25,7 +25,7 @@ returns-else-ends c =
     
     let a = c.args in
     pair_no_back a.kind a.front.now a.back.now a.s.now (sym c.stands.ensures ∙ c.if-stands.true)
-    (name_there a.s.now (length a.front.now) c.name.ensures c.end-1.is)
+    (name_there a.s.now (length a.front.now) c.name.ensures c.in-To.is)
     (sym c.ends.ensures ∙ c.if-ends.false)
 
 pub returns-in-No : goal.returns-in-No
@@ -34,7 +34,7 @@ returns-in-No c =
     
     let a = c.args in
     pair_no_name a.kind a.front.now a.back.now a.s.now (sym c.stands.ensures ∙ c.if-stands.true)
-    c.name.ensures c.enum_told-1.is
+    c.name.ensures c.in-No.is
 
 pub returns-else-stands : goal.returns-else-stands
 returns-else-stands c = let a = c.args in
