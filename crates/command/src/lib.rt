@@ -21,7 +21,7 @@ pub const WHILE: u8 = 6;
 pub const ENDWHILE: u8 = 7;
 
 // Kind (0 where a line is none of the spellings), index, and a copy's source index. An index above 31 is 32.
-#[derive(Drop)]
+#[derive(Clone, Copy)]
 pub struct Numbers {
     pub kind: u8,
     pub index: u8,

@@ -4,7 +4,7 @@ ghost use Rattle.std.specs.Prelude.{◌≡◌, pos};
 use theory::{End, Refusal};
 
 // Where a machine stands: a place, any signed number, and the steps taken so far.
-#[derive(Drop)]
+#[derive(Clone, Copy)]
 pub struct Position {
     pub place: i32,
     pub steps: u32,
@@ -22,14 +22,14 @@ impl Position {
 }
 
 // How a run ended, and the steps taken; or why it was turned down.
-#[derive(Drop)]
+#[derive(Clone, Copy)]
 pub enum Ended {
     Ran(End, u32),
     Refused(Refusal),
 }
 
 // What a run hands back: where the machine stands then, and how it ended.
-#[derive(Drop)]
+#[derive(Clone, Copy)]
 pub struct Run {
     pub position: Position,
     pub ended: Ended,

@@ -12,7 +12,7 @@ use command::{CLEAR, COPY, ENDLOOP, ENDWHILE, LOOP, Numbers, WHILE};
 use theory::{Refusal, Setting};
 
 // A line that opens a pair: its number, its kind (LOOP or WHILE) and its index.
-#[derive(Drop)]
+#[derive(Clone, Copy)]
 pub struct Opening {
     pub line: usize,
     pub kind: u8,

@@ -11,7 +11,7 @@ use output::{put_byte, put_bytes};
 use theory::{End, Refusal};
 
 // How a run ended, and the steps that it took.
-#[derive(Drop)]
+#[derive(Clone, Copy)]
 pub struct Ended {
     pub end: End,
     pub steps: u32,

@@ -17,7 +17,7 @@ use text::{BYTES, is_ended};
 use theory::{Refusal, Setting};
 
 // A program is written as so many bytes, or refused.
-#[derive(Drop)]
+#[derive(Clone, Copy)]
 pub enum Written {
     Done(usize),
     Refused(Refusal),

@@ -3,7 +3,7 @@ use columns::Columns;
 use theory::Refusal;
 
 // The names line of a sheet, read: the variables of the columns in order, the first `count` of the array.
-#[derive(Drop)]
+#[derive(Clone, Copy)]
 pub struct Names {
     pub columns: [u8; Names::COLUMNS],
     pub count: usize,

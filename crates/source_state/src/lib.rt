@@ -13,7 +13,7 @@ use theory::{End, Refusal};
 
 // Where a run stands: the capacity of each variable, the line, the count of steps, the variables, and the passes left of each loop around
 // the line, by the number of loops around that loop.
-#[derive(Drop)]
+#[derive(Clone, Copy)]
 pub struct State {
     pub capacities: [u32; State::VALUES],
     pub line: u32,
@@ -48,14 +48,14 @@ impl State {
 }
 
 // How a run ended and the steps that it took, or why it was refused.
-#[derive(Drop)]
+#[derive(Clone, Copy)]
 pub enum Ended {
     Ran(End, u32),
     Refused(Refusal),
 }
 
 // What a run hands back. A refusal leaves the state as it was.
-#[derive(Drop)]
+#[derive(Clone, Copy)]
 pub struct Run {
     pub state: State,
     pub ended: Ended,

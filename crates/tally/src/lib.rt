@@ -14,7 +14,7 @@ const LONGEST: usize = 18446744073709551615;
 
 // What is counted of a table's first entries: their symbols, or one more than a word may have; how many are good before the first bad
 // one; how many there are.
-#[derive(Drop)]
+#[derive(Clone, Copy)]
 pub struct Tally {
     pub size: usize,
     pub good: usize,

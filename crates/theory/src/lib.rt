@@ -2,7 +2,7 @@
 #![tactic(auto)]
 
 // Why a call turned its input down: the number of the rule of document 01, and the place that the rule names.
-#[derive(Drop)]
+#[derive(Clone, Copy)]
 pub struct Refusal {
     pub number: u32,
     pub place: usize,
@@ -10,7 +10,7 @@ pub struct Refusal {
 
 // How a run ends. Document 01's terms: strayed, a place outside the word other than the one after its last instruction; spent, no budget
 // or no count left; full, the next step would put more than the capacity into a register or a variable.
-#[derive(Drop)]
+#[derive(Clone, Copy)]
 pub enum End {
     Halted,
     Strayed,
@@ -19,7 +19,7 @@ pub enum End {
 }
 
 // The setting of a lesson: every program is taken, or LOOP programs alone (document 02, request 1).
-#[derive(Drop)]
+#[derive(Clone, Copy)]
 pub enum Setting {
     Any,
     LoopOnly,

@@ -2,7 +2,7 @@
 #![tactic(auto)]
 
 // The plain word is document 01's; the tidy one clears registers 2 to K after it.
-#[derive(Drop)]
+#[derive(Clone, Copy)]
 pub enum Form {
     Plain,
     Tidy,

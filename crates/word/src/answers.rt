@@ -4,7 +4,7 @@ ghost use Rattle.std.specs.Prelude.{◌≡◌};
 use theory::Refusal;
 
 // An instruction: its kind, the number of # (1 to 5), and its operand, the number of 1s before them.
-#[derive(Drop)]
+#[derive(Clone, Copy)]
 pub struct Instruction {
     pub kind: u8,
     pub operand: u32,
@@ -30,14 +30,14 @@ impl Instruction {
 }
 
 // The number of instructions read, or why the word or the table is turned down.
-#[derive(Drop)]
+#[derive(Clone, Copy)]
 pub enum Read {
     Done(usize),
     Refused(Refusal),
 }
 
 // The number of symbols written, or why the table is turned down.
-#[derive(Drop)]
+#[derive(Clone, Copy)]
 pub enum Written {
     Done(usize),
     Refused(Refusal),
