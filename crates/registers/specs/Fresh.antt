@@ -6,7 +6,6 @@ use Rattle.theory.specs.Word.{Symbol}
 use Rattle.theory.specs.Machines.{Memory, count, holding, is_sized, refilled}
 use Rattle.theory.specs.TurnedDown.{Answer, done, refused, answer, unless}
 use Rattle.registers.specs.declared.Laid.{Laid}
-use Rattle.registers.specs.declared.Laid.TheVariants as Laid
 
 -- Register i + 1 holds as many 1s as value i, and every other register is empty
 abbrev pub fresh_registers : List ℕ → ℕ → List Symbol

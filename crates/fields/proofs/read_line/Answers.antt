@@ -1,3 +1,4 @@
+-- `read_line` meets its contract: from field to field, as the lemmas on reading say.
 use mathlib.Core.Path.{sym, ◌∙◌}
 use mathlib.Core.List.{List}
 use Prim.Native.Nat.{ℕ, ◌≤◌}
@@ -11,20 +12,19 @@ use Rattle.fields.proofs.read_line.Goals.{else-text-eq0, then-text-eq0}
 
 pub loop-at-init : goal.loop-at-init
 loop-at-init c =
-    
     let a : _ = c.args in
-    rw c.none-line.ensures ((elim c.if-text-eq0.branch [ then-text-eq0 w ↦ reading_none a.text.now a.named c.least-kept.result c.if-text-eq0.at w.0.taken w.1 | else-text-eq0 w ↦ reading_whole a.text.now a.named c.least-kept.result c.if-text-eq0.at w.0.left w.1 ]))
+    rw c.none-line.ensures (elim c.if-text-eq0.branch [
+      | then-text-eq0 w ↦ reading_none a.text.now a.named c.least-kept.result c.if-text-eq0.at w.if-text-eq0.true w.at-is
+      | else-text-eq0 w ↦ reading_whole a.text.now a.named c.least-kept.result c.if-text-eq0.at w.if-text-eq0.false w.at-is
+    ])
 
 pub slice_bounds-field-end : goal.slice_bounds-field-end
 slice_bounds-field-end c =
     let t : List ℕ = c.args.text.now in
-    let end : _ = c.find-end.ensures in
     omega (arith, before-within blank t c.loop-at.at c.loop-at-test.true)
 
 pub returns-in-Nothing : goal.returns-in-Nothing
 returns-in-Nothing c =
-    
-    
     let a : _ = c.args in
     let l : _ = c.loop-at in
     rw (← c.least-kept.ensures) (c.none.ensures
@@ -33,28 +33,21 @@ returns-in-Nothing c =
 
 pub with-line-requires : goal.with-line-requires
 with-line-requires c =
-    
-    
-    
     let l : _ = c.loop-at in
     let few : l.line.count ≤ l.at = reading_count c.args.text.now c.args.named c.least-kept.result l.line l.at l.invariant in
-    (omega (arith, c.loop-at-test.true, c.UNKNOWN-well-formed.0.1), omega (arith, c.least-kept.ensures))
+    (omega (arith, few), omega (arith, c.least-kept.ensures))
 
 pub loop-at-preserved : goal.loop-at-preserved
 loop-at-preserved c =
-    
-    
     let a : _ = c.args in
     let l : _ = c.loop-at in
-    let n : _ = c.n-1.given in
     let least : c.least-kept.result ≤ most = omega (arith, c.least-kept.ensures) in
     rw c.with-line.ensures
     (reading_next a.text.now a.named c.least-kept.result l.line l.at l.invariant c.loop-at-test.true
-    c.find-end.result c.find-end.ensures least n.0.0 (sym n.1 ∙ c.field.ensures))
+    c.find-end.result c.find-end.ensures least c.in-Number.n (sym c.in-Number.is ∙ c.field.ensures))
 
 pub returns : goal.returns
 returns c =
-    
     let a : _ = c.args in
     let l : _ = c.loop-at in
     rw (← c.least-kept.ensures) (reading_end a.text.now a.named c.least-kept.result l.line l.at l.invariant c.loop-at-test.false)

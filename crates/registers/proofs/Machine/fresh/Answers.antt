@@ -12,22 +12,20 @@ pub returns-then-not-fits : goal.returns-then-not-fits
 returns-then-not-fits c =
     let a = c.args in
     lays_none (memory a.capacities.now a.store.now a.lengths.now) a.values.now
-    (sym c.UNKNOWN-fits2.ensures ∙ c.if-not-fits.true)
+    (sym c.fits.ensures ∙ c.if-not-fits.true)
 
 pub fill-requires : goal.fill-requires
 fill-requires c =
     let a = c.args in
     let m : Memory = memory a.capacities.now a.store.now a.lengths.now in
     let holds : can_hold m a.values.now ≡ true
-    = sym c.UNKNOWN-fits2.ensures ∙ c.if-not-fits.false in
+    = sym c.fits.ensures ∙ c.if-not-fits.false in
     (are_sized m (holds_sized m a.values.now holds), holds_each m a.values.now holds)
 
 pub returns : goal.returns
 returns c =
-    
-    
     let a = c.args in
     let m : Memory = memory a.capacities.now a.store.now a.lengths.now in
     let holds : can_hold m a.values.now ≡ true
-    = sym c.UNKNOWN-fits2.ensures ∙ c.if-not-fits.false in
+    = sym c.fits.ensures ∙ c.if-not-fits.false in
     lays_all m a.values.now holds _ _ c.fill.ensures

@@ -1,3 +1,4 @@
+-- `all_within` meets its contract: a value above its capacity, or none.
 use mathlib.Core.Path.{sym}
 use Rattle.registers.proofs.CanHold.{within_fails, within_all}
 use borrow.Author.Rules.{rules}

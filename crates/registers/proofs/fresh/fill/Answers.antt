@@ -1,3 +1,4 @@
+-- `fill` meets its contract: each register has its place in the store, and the place has room for what it is to hold.
 use mathlib.Core.Path.{◌≡◌, refl}
 use Prim.Native.Nat.{ℕ, suc, ◌+◌, ◌-◌, ◌≤◌, ◌<◌}
 use native.Mathlib.Omega.{arith}
@@ -39,12 +40,10 @@ fits : (c : After-held-n)
     → let a = c.args in
     c.held-n.result ≤ get_or a.capacities.now c.loop-i.i 0
 fits c =
-    
     omega (arith, c.held-n.ensures, c.requires.1 c.loop-i.i)
 
 pub loop-i-init : goal.loop-i-init
 loop-i-init c =
-    
     let a = c.args in
     let none = filling_none a.capacities.now (fresh_registers a.values.now) in
     (c.offsets-places.ensures, none _ _ c.requires.0.room c.requires.0.paired)
@@ -60,7 +59,6 @@ slice_bounds-lay-end c = ends (goal.at.slice_bounds-lay-end c).In-loop-i
 
 pub lay-requires : goal.lay-requires
 lay-requires c =
-    
     let store = c.loop-i.store in
     let places = c.offsets-places.result in
     let from : ℕ = get_or places c.loop-i.i 0 in
@@ -70,20 +68,17 @@ lay-requires c =
 
 pub loop-i-preserved : goal.loop-i-preserved
 loop-i-preserved c =
-    
     let a = c.args in
-    
     let l = c.loop-i in
-    let starts = table_at a.capacities.now _ l.invariant.0 l.i (few (goal.at.loop-i-preserved h).In-loop-i) in
-    let stops = table-after a.capacities.now _ l.invariant.0 l.i (few (goal.at.loop-i-preserved h).In-loop-i) in (
+    let starts = table_at a.capacities.now _ l.invariant.0 l.i (few (goal.at.loop-i-preserved c).In-loop-i) in
+    let stops = table-after a.capacities.now _ l.invariant.0 l.i (few (goal.at.loop-i-preserved c).In-loop-i) in (
       l.invariant.0,
       filling-next a.values.now a.capacities.now l.i _ _ _ c.held-n.result l.store l.lengths _ l.invariant.1
-          (below (goal.at.loop-i-preserved h).In-loop-i) starts stops refl c.held-n.ensures (fits (goal.at.loop-i-preserved c).After-held-n) c.lay.ensures,
+          (below (goal.at.loop-i-preserved c).In-loop-i) starts stops refl c.held-n.ensures (fits (goal.at.loop-i-preserved c).After-held-n) c.lay.ensures,
     )
 
 pub returns : goal.returns
 returns c =
-    
     let a = c.args in
     let l = c.loop-i in
     let short : (j : ℕ) → length (fresh_registers a.values.now (suc j)) ≤ get_or a.capacities.now j 0

@@ -4,5 +4,4 @@ use Rattle.registers.proofs.fresh.lay.Goals as goal
 
 pub returns : goal.returns
 returns c =
-    
     runs-laid c.args.part.now c.args.n c.requires c.write_runs.ensures

@@ -22,8 +22,6 @@ the_item w at kind middle next m e k operand o =
 
 pub returns : goal.returns
 returns c =
-    
-    
     let a = c.args in
     the_item a.word.now a.at _ _ _ c.run_end-middle.ensures c.run_end-next.ensures c.kind_of.ensures
     c.operand_of.result c.operand_of.ensures

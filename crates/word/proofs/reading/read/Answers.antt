@@ -7,16 +7,14 @@ use Rattle.word.proofs.reading.read.Goals as goal
 pub returns-then-kinds-count : goal.returns-then-kinds-count
 returns-then-kinds-count c =
     let a : _ = c.args in
-    let n : _ = c.count-1.given in
-    let m : _ = measured a.word.now n.0.0 (sym n.1 ∙ c.measure.ensures) in
+    let m : _ = measured a.word.now c.in-Done.count (sym c.in-Done.is ∙ c.measure.ensures) in
     let x : _ = kinds_short a.word.now a.kinds.now a.operands.now m.0 (omega (arith, m.1, c.if-kinds-count.true)) in
     (c.refused.ensures ∙ x.0, x.1, x.2)
 
 pub returns-then-operands-count : goal.returns-then-operands-count
 returns-then-operands-count c =
     let a : _ = c.args in
-    let n : _ = c.count-1.given in
-    let m : _ = measured a.word.now n.0.0 (sym n.1 ∙ c.measure.ensures) in
+    let m : _ = measured a.word.now c.in-Done.count (sym c.in-Done.is ∙ c.measure.ensures) in
     let x : _ = operands_short a.word.now a.kinds.now a.operands.now m.0 (omega (
       arith,
       m.1,
@@ -27,8 +25,7 @@ returns-then-operands-count c =
 pub fill-requires : goal.fill-requires
 fill-requires c =
     let a : _ = c.args in
-    let n : _ = c.count-1.given in
-    let m : _ = measured a.word.now n.0.0 (sym n.1 ∙ c.measure.ensures) in
+    let m : _ = measured a.word.now c.in-Done.count (sym c.in-Done.is ∙ c.measure.ensures) in
     record {
       passed = m.0;
       whole = m.1;
@@ -39,18 +36,16 @@ fill-requires c =
 pub returns-else-operands-count : goal.returns-else-operands-count
 returns-else-operands-count c =
     let a : _ = c.args in
-    let n : _ = c.count-1.given in
-    let m : _ = measured a.word.now n.0.0 (sym n.1 ∙ c.measure.ensures) in
+    let m : _ = measured a.word.now c.in-Done.count (sym c.in-Done.is ∙ c.measure.ensures) in
     let f : _ = c.fill in
     both_fit a.word.now a.kinds.now a.operands.now m.0 (omega (
       arith,
       m.1,
       c.if-kinds-count.false,
     )) (omega (arith, m.1, c.if-operands-count.false))
-    n.0.0 m.1 f.new.1.1.0 f.new.1.1.1.0 f.ensures
+    c.in-Done.count m.1 f.new.kinds f.new.operands f.ensures
 
 pub returns-in-Refused : goal.returns-in-Refused
 returns-in-Refused c =
     let a : _ = c.args in
-    let r : _ = c.r-1.given in
-    read_refused a.word.now a.kinds.now a.operands.now r.0.0 (sym r.1 ∙ c.measure.ensures)
+    read_refused a.word.now a.kinds.now a.operands.now c.in-Refused.r (sym c.in-Refused.is ∙ c.measure.ensures)

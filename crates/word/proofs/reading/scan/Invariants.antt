@@ -2,6 +2,7 @@
 -- more than a word may have, `extra` is where the first too many starts. What is left of the word falls.
 use Prim.Native.Nat.{◌-◌}
 use lib.ListN.{length}
+use Rattle.word.proofs.Scanning.{Scanning}
 use Rattle.word.proofs.reading.scan.Given as goal
 
 abbrev pub invariant-loop-at : goal.invariant-loop-at

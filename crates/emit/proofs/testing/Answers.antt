@@ -1,0 +1,10 @@
+-- `testing` meets its contract: its instructions, one after the other.
+use Rattle.instruction.proofs.Instructions.{spelt_then}
+use Rattle.emit.proofs.testing.Goals as goal
+
+pub returns : goal.returns
+returns c =
+    
+    
+    
+    spelt_then c.put_instruction-second.ensures (spelt_then c.put_instruction-third.ensures c.put_instruction.ensures)

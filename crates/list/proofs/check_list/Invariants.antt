@@ -1,0 +1,12 @@
+-- `list::check_list` meets its contract: before each command the faults that are left are those of the whole list.
+use Prim.Native.Nat.{◌≤◌, ◌-◌}
+use lib.ListN.{length}
+use Rattle.list.proofs.ListCheck.{SoFar}
+use Rattle.list.proofs.check_list.Given as goal
+
+abbrev pub invariant-loop-lines : goal.invariant-loop-lines
+invariant-loop-lines l =
+    (length l.list ≤ 1536) × SoFar l.setting l.list l.lines l.variables l.count l.openings
+
+abbrev pub decreases-loop-lines : goal.decreases-loop-lines
+decreases-loop-lines l = length l.list - l.lines
