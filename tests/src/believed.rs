@@ -5,11 +5,10 @@ use std::collections::BTreeSet;
 use std::fs;
 use std::path::{Path, PathBuf};
 
-/// The crate and file of a path such as `Rattle·word.specs.Answers` or, inside its own crate, `Rattle·word·specs.specs.Answers`.
+/// The crate and file of a path such as `Rattle.word.specs.Answers`.
 fn spec_of(path: &str) -> Option<(String, String)> {
-    let path = path.strip_prefix("Rattle·")?;
+    let path = path.strip_prefix("Rattle.")?;
     let (krate, rest) = path.split_once(".specs.")?;
-    let krate = krate.split('·').next()?;
     let file = rest.split(['.', ' ', ';']).next()?;
     (file != "declared").then(|| (krate.into(), file.into()))
 }
@@ -58,15 +57,26 @@ fn contracts(text: &str, is_entry: impl Fn(bool, &str, &str) -> bool) -> String 
     found
 }
 
+/// The modules whose items a library hands on, each with the names of these.
+fn handed_on(library: &str) -> Vec<(String, Vec<String>)> {
+    let uses = library.split("\npub use ").skip(1).filter_map(|rest| rest.split_once(';'));
+    uses.filter_map(|(path, _)| path.rsplit_once("::"))
+        .map(|(module, items)| {
+            let names = items.trim_matches(['{', '}']).split(',').map(|n| n.trim().to_string());
+            (module.to_string(), names.filter(|n| !n.is_empty()).collect())
+        })
+        .collect()
+}
+
 /// The files that the contracts of a crate's entries cite: those of lib.rt, those that it hands on, and all of a program's main.rt.
 fn cited_by(folder: &Path) -> Vec<(String, String)> {
     let source = |name: &str| fs::read_to_string(folder.join("src").join(name)).unwrap_or_default();
     let (library, program) = (source("lib.rt"), source("main.rt"));
     let mut parts = vec![(contracts(&library, |public, _, _| public), library.clone()), (contracts(&program, |_, _, _| true), program)];
-    for handed_on in library.lines().filter_map(|l| l.strip_prefix("pub use ")) {
-        let Some((module, item)) = handed_on.trim_end_matches(';').rsplit_once("::") else { continue };
+    for (module, items) in handed_on(&library) {
         let text = source(&(module.replace("::", "/") + ".rt"));
-        parts.push((contracts(&text, |public, name, within| public && (name == item || within == item)), text));
+        let is_one = |name: &str| items.iter().any(|item| item == name);
+        parts.push((contracts(&text, |public, name, within| public && (is_one(name) || is_one(within))), text));
     }
     let mut cited = Vec::new();
     for (contract, text) in parts {

@@ -27,7 +27,7 @@ loop-lines-preserved c =
     let args = c.args in
     let so_far = onward args.setting args.list.now m.lines m.variables m.count m.openings m.invariant.1
     c.loop-lines-test.true c.judge.ensures in
-    (m.invariant.0, so_far (goal.at.loop-lines-preserved c).In-Passes-2.«open».given.1 _ (c.named-variables.ensures ∙ rw c.named.ensures))
+    (m.invariant.0, so_far c.in-Passes.is _ (c.named-variables.ensures ∙ rw c.named.ensures))
 
 pub returns-then-lines-list : goal.returns-then-lines-list
 returns-then-lines-list c =

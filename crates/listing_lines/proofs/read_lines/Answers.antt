@@ -4,7 +4,7 @@ use lib.ListN.{length}
 use Rattle.theory.specs.Text.{LF}
 use Rattle.text.specs.Runs.{is_other}
 use Rattle.text.proofs.Runs.{leading-within}
-use Rattle.listing_lines.proofs.LinesLeft.{lines_next}
+use Rattle.listing_lines.proofs.LinesLeft.{lines_next, lines-read}
 use Rattle.listing_lines.proofs.read_lines.Goals as goal
 use Rattle.listing_lines.proofs.read_lines.Goals.{After-line_end-end}
 
@@ -23,5 +23,13 @@ loop-at-preserved c =
     
     
     
-    lines_next c.loop-at.invariant c.loop-at-test.true (omega arith) c.line_end-end.result c.line_end-end.ensures (within (goal.at.loop-at-preserved c3).After-line_end-end)
+    lines_next c.loop-at.invariant c.loop-at-test.true (omega arith) c.line_end-end.result c.line_end-end.ensures (within (goal.at.loop-at-preserved c).After-line_end-end)
     c.numbers_of.ensures c.put_line-place.ensures c.onward-at.ensures
+
+pub returns-clause-value : goal.returns-clause-value
+returns-clause-value c =
+    (lines-read c.loop-at.invariant c.loop-at-test.false).0
+
+pub returns-clause-list_after : goal.returns-clause-list_after
+returns-clause-list_after c =
+    (lines-read c.loop-at.invariant c.loop-at-test.false).1

@@ -1,0 +1,56 @@
+-- `scan` meets its contract: the part that it reads is the line, and the line is judged as the definition judges its values.
+use mathlib.Core.Path.{◌≡◌, ap, ◌∙◌}
+use mathlib.Core.List.{List}
+use mathlib.Core.Option.{Option}
+use Prim.Native.Nat.{ℕ, ◌≤◌, ◌<◌}
+use native.Mathlib.Omega.{arith}
+use mir.Syntax.{w32}
+use lib.ListN.{length, take, get_or}
+use lib.Seq.{length-take-le}
+use Rattle.theory.specs.RunSheet.{values}
+use Rattle.fields.specs.declared.Line.{Line}
+use Rattle.fields.specs.Fields.{most, line_of}
+use Rattle.sheet.specs.Answers.{line_at}
+use Rattle.sheet.proofs.Splits.{part_end, part_line, part_next}
+use Rattle.sheet.proofs.Judged.{numbers-values, line-judged}
+use Rattle.sheet.proofs.scan.Goals as goal
+use Rattle.sheet.proofs.scan.Goals.{After-find-end, Start}
+
+-- The part ends within the sheet
+within : (c : After-find-end) → c.find-end.result ≤ length c.args.sheet.now
+within c =
+    let a : _ = c.args in
+    part_end a.sheet.now a.at c.least-from.result c.find-end.result c.least-from.ensures c.find-end.ensures
+
+-- A capacity has 32 bits
+bounded : (s : Start) → (i : ℕ) → get_or s.args.capacities i 0 < most
+bounded s i =
+    let g : _ = s.UNKNOWN-well-formed.1.1.1.0 in
+    (elem_Fits w32 w32 s.args.capacities g.0 i g.1.1 tt).fits
+
+pub slice_bounds-read_line-end : goal.slice_bounds-read_line-end
+slice_bounds-read_line-end c = omega (arith, within c)
+
+pub returns : goal.returns
+returns c =
+    
+    
+    
+    let a : _ = c.args in
+    let s : List ℕ = a.sheet.now in
+    let ns : List ℕ = take a.count a.columns in
+    let o : Option (List ℕ) = values (line_at s a.at) in
+    let from : ℕ = c.least-from.result in
+    let end : ℕ = c.find-end.result in
+    let part : _ = part_line s a.at from end c.least-from.ensures c.find-end.ensures in
+    let next : _ = part_next s a.at from end c.least-from.ensures c.find-end.ensures in
+    let read : c.read_line-line.result ≡ line_of most o = rw (part, numbers-values (line_at s a.at)) at c.read_line-line.ensures in
+    let columns : length a.columns ≡ 32 = c.UNKNOWN-well-formed.1.0.1.0.1 in
+    let counted : length ns ≡ a.count = length-take-le a.count a.columns (omega (arith, c.requires)) in
+    let judged : _ =
+    line-judged a.capacities ns (bounded (goal.at.returns c).Start) a.n o _ a.count _ read counted c.requires c.all_within-within.ensures in
+    record {
+      numbers_read = ap (λ (l : Line). l.numbers) read;
+      next_line = c.least.ensures ∙ next;
+      judged = c.line_fault.ensures ∙ judged;
+    }
