@@ -1,8 +1,6 @@
 # What ./run and ./label share: a tool is built where that is needed, and run in a folder. To be sourced.
 # shellcheck shell=bash
 here=$(cd "$(dirname "${BASH_SOURCE[0]}")" && pwd)
-# shellcheck source=scratch.sh
-. "$here/scratch.sh"
 
 say() { printf '%s\n' "$*" >&2; }
 
@@ -21,27 +19,34 @@ crates_of() {
 
 # Proves and builds a tool. Where there is something to prove it says so, and tells of each crate as it is proved.
 build() {
-    local tool=$1 log="$here/target/$1.log" total proved=0 told='' line
+    local tool=$1 log="$here/target/$1.log" total proved=0 told='' line name=''
     total=$(crates_of "$tool" | wc -l)
     mkdir -p "$here/target"
     tell() {
         [ -z "$told" ] || return 0
         told=yes
-        say "$tool is proved and built first: $total crates, about $(((total + 9) / 10)) minutes on two cores."
+        say "$tool is proved and built first: $total crates, about a minute each on two cores."
         say "This is once; after it the answer comes at once."
     }
     while true; do
-        if IFS= read -r -t 2 line; then
-            [[ $line == 'rt: '*' proved ('* ]] || continue
-            proved=$((proved + 1))
-            [[ $line == *'(unchanged'* ]] || { tell && say "  $proved of $total: ${line#rt: }"; }
+        if IFS= read -r -t 10 line; then
+            case $line in
+                'rt: nothing has changed '* | 'rt: running '*) ;;
+                'crate '*': modules '*) name=${line#crate } name=${name%%:*} ;;
+                'logic=proved'*)
+                    proved=$((proved + 1))
+                    say "  $proved of $total: $name proved"
+                    ;;
+                *) tell ;;
+            esac
         elif [ $? -gt 128 ]; then
-            tell # nothing was said for two seconds
+            tell # nothing was said for ten seconds
         else
             break
         fi
-    done < <(cd "$here" && in_memory rt check "$tool" 2>&1 | tee "$log")
-    tail -n 1 "$log" | grep -q '^rt: ok' && return
+    done < <(cd "$here/crates/$tool" && rt run 2>&1 > /dev/null | tee "$log")
+    # it ends by running the tool, here on no files
+    tail -n 1 "$log" | grep -q '^rt: running ' && return
     cat "$log" >&2
     return 1
 }
@@ -77,6 +82,6 @@ tool_in() {
     output=$(mktemp)
     # shellcheck disable=SC2064
     trap "rm -f '$output'" EXIT
-    (cd "$folder" && "$here/target/bin/$tool") | tee "$output"
+    (cd "$folder" && "$here/crates/$tool/out/$tool") | tee "$output"
     explain "$output"
 }

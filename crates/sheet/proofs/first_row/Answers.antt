@@ -11,7 +11,7 @@ use Rattle.sheet.proofs.first_row.Goals as goal
 pub overflow_add-find : goal.overflow_add-find
 overflow_add-find c =
     let s : _ = c.args.sheet.now in
-    omega (arith, c.find.ensures, before-within LF s 0 (omega arith), c.UNKNOWN-well-formed.0.1)
+    omega (arith, c.find.ensures, before-within LF s 0 (omega arith))
 
 pub returns : goal.returns
 returns c =

@@ -26,7 +26,6 @@ returns-then-not-line-2 c =
 pub returns-then-within : goal.returns-then-within
 unfolding line_fault
 returns-then-within c =
-    
     let l : _ = c.args.line in
     let shaped : l.shaped ≡ true = not-false l.shaped c.if-not-line.false in
     let below : l.below ≡ true = not-false l.below c.if-not-line-2.false in
@@ -35,7 +34,6 @@ returns-then-within c =
 pub returns-else-within : goal.returns-else-within
 unfolding line_fault
 returns-else-within c =
-    
     let l : _ = c.args.line in
     let shaped : l.shaped ≡ true = not-false l.shaped c.if-not-line.false in
     let below : l.below ≡ true = not-false l.below c.if-not-line-2.false in

@@ -20,7 +20,6 @@ returns-then-not-line-2 c =
 pub returns-then-fit : goal.returns-then-fit
 unfolding names_line_fault
 returns-then-fit c =
-    
     let l : _ = c.args.line in
     let shaped : l.shaped ≡ true = not-false l.shaped c.if-not-line.false in
     let below : l.below ≡ true = not-false l.below c.if-not-line-2.false in
@@ -29,7 +28,6 @@ returns-then-fit c =
 pub returns-else-fit : goal.returns-else-fit
 unfolding names_line_fault
 returns-else-fit c =
-    
     let l : _ = c.args.line in
     let shaped : l.shaped ≡ true = not-false l.shaped c.if-not-line.false in
     let below : l.below ≡ true = not-false l.below c.if-not-line-2.false in

@@ -25,8 +25,6 @@ slice_bounds-read_line-end c = omega (arith, within c)
 
 pub returns : goal.returns
 returns c =
-    
-    
     let a : _ = c.args in
     let s : List ℕ = a.sheet.now in
     let end : ℕ = c.find-end.result in

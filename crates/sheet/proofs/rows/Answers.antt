@@ -1,3 +1,4 @@
+-- `rows` meets its contract: one line further, up to the first fault or the end.
 use mathlib.Core.Path.{◌≡◌}
 use mathlib.Core.Option.{none, some}
 use mathlib.Core.List.{List}
@@ -11,18 +12,15 @@ use Rattle.sheet.proofs.rows.Goals as goal
 
 pub returns-in-Refused : goal.returns-in-Refused
 returns-in-Refused c =
-    
     let a : _ = c.args in
     let ns : List ℕ = take a.count a.columns in
     let l : _ = c.loop-at in
-    
     let o : _ = values_fault a.capacities ns l.n (values (line_at a.sheet.now l.at)) in
     let faulty : o ≡ some c.in-Refused.r = some_fault o c.in-Refused.r c.in-Refused.is c.scan-line.ensures.judged in
     along_fault a.sheet.now a.capacities ns a.from l.at l.n l.invariant c.loop-at-test.true c.in-Refused.r faulty
 
 pub loop-at-preserved : goal.loop-at-preserved
 loop-at-preserved c =
-    
     let a : _ = c.args in
     let ns : List ℕ = take a.count a.columns in
     let l : _ = c.loop-at in

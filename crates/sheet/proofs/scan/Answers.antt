@@ -4,6 +4,8 @@ use mathlib.Core.List.{List}
 use mathlib.Core.Option.{Option}
 use Prim.Native.Nat.{ℕ, ◌≤◌, ◌<◌}
 use native.Mathlib.Omega.{arith}
+use borrow.Author.Rules.{rules}
+use Rattle.std.proofs.Common.{Fits}
 use mir.Syntax.{w32}
 use lib.ListN.{length, take, get_or}
 use lib.Seq.{length-take-le}
@@ -25,17 +27,14 @@ within c =
 -- A capacity has 32 bits
 bounded : (s : Start) → (i : ℕ) → get_or s.args.capacities i 0 < most
 bounded s i =
-    let g : _ = s.UNKNOWN-well-formed.1.1.1.0 in
-    (elem_Fits w32 w32 s.args.capacities g.0 i g.1.1 tt).fits
+    let fit : Fits w32 (get_or s.args.capacities i 0) = search rules in
+    fit.fits
 
 pub slice_bounds-read_line-end : goal.slice_bounds-read_line-end
 slice_bounds-read_line-end c = omega (arith, within c)
 
 pub returns : goal.returns
 returns c =
-    
-    
-    
     let a : _ = c.args in
     let s : List ℕ = a.sheet.now in
     let ns : List ℕ = take a.count a.columns in
@@ -45,7 +44,7 @@ returns c =
     let part : _ = part_line s a.at from end c.least-from.ensures c.find-end.ensures in
     let next : _ = part_next s a.at from end c.least-from.ensures c.find-end.ensures in
     let read : c.read_line-line.result ≡ line_of most o = rw (part, numbers-values (line_at s a.at)) at c.read_line-line.ensures in
-    let columns : length a.columns ≡ 32 = c.UNKNOWN-well-formed.1.0.1.0.1 in
+    let columns : length a.columns ≡ 32 = search rules in
     let counted : length ns ≡ a.count = length-take-le a.count a.columns (omega (arith, c.requires)) in
     let judged : _ =
     line-judged a.capacities ns (bounded (goal.at.returns c).Start) a.n o _ a.count _ read counted c.requires c.all_within-within.ensures in
