@@ -25,7 +25,6 @@ use Rattle.source_state.specs.Answers.{stands}
 use Rattle.source_state.specs.Numbers.{stored, led}
 use Rattle.source.specs.Lines.{Holds, decoded, command_at, entry_at, Jump, Reaches, Filled, Put, Left, Stepped}
 use Rattle.source_state.specs.declared.step.Stored.{Stored}
-use Rattle.source_state.specs.declared.step.Stored.TheVariants as Stored
 use Rattle.source_state.specs.declared.step.Led.{Led}
 use Rattle.source.specs.declared.steps.Next.{Next}
 use Rattle.source.specs.declared.steps.Next.TheVariants as N

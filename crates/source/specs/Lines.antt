@@ -1,5 +1,5 @@
 -- What the private functions of this crate say of the lines of a list, of the tables filled for a run, of a step, of a run and of rule 9.
-use Rattle.std.specs.Prelude.{◌≡◌, Bool, cond, List, ℕ, suc, pred, ◌+◌, ◌-◌, ◌*◌, ◌≤◌, ◌<◌, length, get_or, set, eqb, ltb, leb}
+use Rattle.std.specs.Prelude.{◌≡◌, Bool, cond, List, ℕ, suc, pred, ◌+◌, ◌-◌, ◌*◌, ◌≤◌, ◌<◌, length, get_or, set, eqb}
 use Rattle.std.proofs.Math.Option.{Option, none, some}
 use Rattle.theory.specs.Limits.{most_lines, most_capacity, state_values, state_passes}
 use Rattle.theory.specs.Basics.{all_below}
@@ -13,7 +13,6 @@ use Rattle.theory.specs.Claims.{Accepted}
 use Rattle.source_state.specs.Answers.{stands}
 use Rattle.source_state.specs.Numbers.{led, is_value_within, is_passes_within}
 use Rattle.source_state.specs.declared.step.Stored.{Stored}
-use Rattle.source_state.specs.declared.step.Stored.TheVariants as Stored
 use Rattle.source_state.specs.declared.step.Led.{Led}
 use Rattle.source.specs.declared.steps.Next.{Next}
 use Rattle.source.specs.declared.steps.Next.TheVariants as N

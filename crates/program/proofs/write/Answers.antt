@@ -8,7 +8,6 @@ text_size-size-requires c = let a = c.args in
 
 pub put_text-requires : goal.put_text-requires
 put_text-requires c =
-    
     let a = c.args in
     writes_faultless a.setting a.list.now a.text.now c.check_list.ensures c.in-Accepted.is
 

@@ -11,9 +11,4 @@ returns-then-numbers-ne-NUMBERS c = rw (ne_eqb (length c.args.numbers.now) 82 c.
 pub returns : goal.returns
 unfolding lent_state state_of
 returns c =
-    let third : tie.After-copy3 = (goal.at.returns c).After-copy-3 in
-    let second : tie.After-copy2 = third.before.before.before.before in
-    let first : tie.After-copy = second.before.before.before.before in
-    let test : tie.Else1 = first.before.before.before in
-    let is : _ = eq-eqb (length test.before.before.args.numbers.now) 82 test.if1.false in
-    rw (is, first.copy.ensures, second.copy2.ensures, third.copy3.ensures)
+    rw (eq-eqb (length c.args.numbers.now) 82 c.if-numbers-ne-NUMBERS.false, c.copy.ensures, c.copy-2.ensures, c.copy-3.ensures)

@@ -1,3 +1,4 @@
+-- `program::lines::read_lines` meets its contract: the numbers stored and those of the lines that are left are those of the whole text.
 use Prim.Native.Nat.{◌≤◌}
 use native.Mathlib.Omega.{arith}
 use Rattle.theory.specs.Text.{LF}
@@ -20,17 +21,11 @@ slice_bounds-numbers_of-end c = omega (arith, within c)
 
 pub loop-at-preserved : goal.loop-at-preserved
 loop-at-preserved c =
-    
-    
-    
-    
-    
-    let m = c.loop-at in
-    let e = c.line_end-end.ensures in (
+    let m = c.loop-at in (
       m.invariant.0,
-      lines_next c.args.text.now m.list m.at m.lines m.invariant.1 c.loop-at-test.true c.line_end-end.result e (within (goal.at.loop-at-preserved c).After-line_end-end)
-          c.numbers_of.result c.store.new.list c.numbers_of.ensures c.store.auto.1.0
-          c.store.ensures,
+      lines_next c.args.text.now m.list m.at m.lines m.invariant.1 c.loop-at-test.true c.line_end-end.result c.line_end-end.ensures
+          (within (goal.at.loop-at-preserved c).After-line_end-end) c.numbers_of.result c.store.new.list c.numbers_of.ensures
+          c.store.auto.list c.store.ensures,
     )
 
 pub returns : goal.returns

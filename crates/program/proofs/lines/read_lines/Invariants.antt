@@ -1,4 +1,4 @@
--- `program::lines::read_lines` meets its contract: the numbers stored and those of the lines that are left are those of the whole text.
+-- What stays true while the lines of a text are read, and that the loop ends.
 use Prim.Native.Nat.{◌+◌, ◌-◌, ◌≤◌}
 use lib.ListN.{length}
 use Rattle.program.proofs.TextLines.{LinesFrom}

@@ -1,0 +1,38 @@
+use mathlib.Core.Path.{◌≡◌, sym, ◌∙◌}
+use mathlib.Core.Logic.{⊎_elim}
+use Prim.Native.Nat.{ℕ, ◌≤◌, ◌<◌, ◌+◌, ◌/◌, min}
+use native.Mathlib.Nat.{le-div_iff_mul-le, div-lt_iff_lt-mul}
+use native.Mathlib.Omega.{arith}
+use lib.ListN.{length, drop}
+use Rattle.drains.specs.Drains.{with_room}
+use Rattle.drains.proofs.Parts.{room_next, room_all}
+use borrow.Author.Rules.{rules}
+use Rattle.drains.proofs.with_room.Goals as goal
+
+pub loop-j-preserved : goal.loop-j-preserved
+loop-j-preserved c =
+    let s = c.args in
+    let l = c.loop-j in
+    let r = c.room_in-room in
+    let k : ℕ = length s.appends.now in
+    let some : 0 < k = omega arith in
+    let next : (m : ℕ) → m ≡ min (r.result / k) l.m
+    → with_room s.lengths.now s.capacities.now s.from k s.appends.now s.most
+    ≡ with_room s.lengths.now s.capacities.now s.from k (drop (l.j + 1) s.appends.now) m = λ m e.
+    l.invariant.2 ∙ room_next s.lengths.now s.capacities.now s.from k s.appends.now l.j l.m (omega arith)
+    r.result m r.ensures e in
+    ⊎_elim
+    (λ w.
+    let less : r.result / k < l.m = (div-lt_iff_lt-mul some).1 w.0.taken in
+    (search rules, omega (arith, w.1, l.invariant.1), next c.if-room-m.m (omega (arith, w.1))))
+    (λ w.
+    let more : l.m ≤ r.result / k = (le-div_iff_mul-le some).1 w.0.left in
+    (search rules, omega (arith, w.1, l.invariant.1), next c.if-room-m.m (omega (arith, w.1))))
+    c.if-room-m.branch
+
+pub returns : goal.returns
+returns c =
+    let s = c.args in
+    let l = c.loop-j in
+    sym (l.invariant.2 ∙ room_all s.lengths.now s.capacities.now s.from (length s.appends.now) s.appends.now l.j l.m
+    (omega arith))

@@ -1,0 +1,61 @@
+-- `run` meets its contract: rule 10, and then what the search for an entry that the machine cannot do found.
+use mathlib.Core.Path.{◌≡◌, sym, ◌∙◌}
+use mathlib.Core.Bool.{true}
+use mathlib.Core.Option.{none}
+use native.Mathlib.Omega.{arith}
+use lib.ListN.{length}
+use Rattle.theory.specs.Machines.{is_memory}
+use Rattle.word.specs.Answers.{zipped}
+use Rattle.memory.specs.Calls.{memory}
+use Rattle.usable.specs.Usable.{first_unusable}
+use Rattle.rings.proofs.Running.{memory-sized}
+use Rattle.underway.proofs.AllUsable.{found, found_none, all_usable}
+use Rattle.rings.proofs.Answered.{no_memory, refused_15, all_done}
+use Rattle.rings.proofs.run.Goals as goal
+use Rattle.rings.proofs.run.Goals.{Else-not-is_memory, In-Nothing}
+
+good : (c : Else-not-is_memory) → let a = c.args in is_memory (memory a.capacities.now
+    a.store.now a.lengths.now) ≡ true
+good c = sym c.is_memory.ensures ∙ c.if-not-is_memory.false
+
+-- the machine can do every entry
+nothing : (c : In-Nothing)
+    → let a = c.args in
+    first_unusable (length a.capacities.now) (zipped a.kinds.now a.operands.now) ≡ none
+nothing c = found_none _ (sym c.in-Nothing.is ∙ c.first_unusable.ensures)
+
+pub returns-then-not-is_memory : goal.returns-then-not-is_memory
+returns-then-not-is_memory c =
+    let a = c.args in
+    let m = memory a.capacities.now a.store.now a.lengths.now in
+    rw (
+      c.turned_down.ensures,
+      no_memory m a.at a.budget (zipped a.kinds.now a.operands.now)
+          (sym c.is_memory.ensures ∙ c.if-not-is_memory.true),
+    )
+
+pub run_usable-requires : goal.run_usable-requires
+run_usable-requires c =
+    let a = c.args in
+    let fine = good (goal.at.run_usable-requires c).Else-not-is_memory in
+    let few = (memory-sized a.capacities.now a.store.now a.lengths.now fine).registers in
+    (fine, all_usable (length a.capacities.now) a.kinds.now a.operands.now (nothing (goal.at.run_usable-requires c).In-Nothing) (omega (arith, few)))
+
+pub returns-in-At : goal.returns-in-At
+returns-in-At c =
+    let a = c.args in
+    let m = memory a.capacities.now a.store.now a.lengths.now in
+    let i = c.i-1 in
+    rw (
+      c.turned_down-in-At.ensures,
+      refused_15 m a.at a.budget (zipped a.kinds.now a.operands.now) (good (goal.at.returns-in-At c).Else-not-is_memory)
+          i.given.0.0
+          (found _ i.given.0.0 (sym i.given.1 ∙ c.first_unusable.ensures)),
+    )
+
+pub returns-in-Nothing : goal.returns-in-Nothing
+returns-in-Nothing c =
+    let a = c.args in
+    let m = memory a.capacities.now a.store.now a.lengths.now in
+    c.run_usable.ensures
+    ∙ sym (all_done m a.at a.budget (zipped a.kinds.now a.operands.now) (good (goal.at.returns-in-Nothing c).Else-not-is_memory) (nothing (goal.at.returns-in-Nothing c).In-Nothing))
