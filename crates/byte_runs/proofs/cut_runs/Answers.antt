@@ -5,9 +5,6 @@ use Rattle.byte_runs.proofs.cut_runs.Goals as goal
 
 pub returns : goal.returns
 returns c =
-    
-    
-    
     let a = c.args in
     runs-starting a.part.now (omega arith) a.count _ a.more _ c.least-first.result c.least-second.result c.fill.ensures
     c.fill-2.ensures (omega arith) (omega arith)

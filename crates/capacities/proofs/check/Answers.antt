@@ -5,35 +5,27 @@ use Rattle.capacities.proofs.check.Goals as goal
 
 pub returns-then-not-are_a_set : goal.returns-then-not-are_a_set
 returns-then-not-are_a_set c =
-    
-    
     c.refused.ensures
     ∙ no_set _ _ c.check_list.ensures _ c.in-Accepted.is
     (sym c.are_a_set.ensures ∙ c.if-not-are_a_set.true)
 
 pub passes-requires : goal.passes-requires
 passes-requires c =
-    
     let a : _ = c.args in
     few a.capacities.now a.list.now c.check_list.ensures _ c.in-Accepted.is
 
 pub returns-in-Refused : goal.returns-in-Refused
 returns-in-Refused c =
-    
     turned_down _ _ c.check_list.ensures _ c.in-Refused.is
 
 pub returns-then-passes : goal.returns-then-passes
 returns-then-passes c =
-    
-    
     passed _ _ c.check_list.ensures _ c.in-Accepted.is
     (sym c.are_a_set.ensures ∙ c.if-not-are_a_set.false)
     (sym c.passes.ensures ∙ c.if-passes.true)
 
 pub returns-else-passes : goal.returns-else-passes
 returns-else-passes c =
-    
-    
     c.refused-else-passes.ensures
     ∙ too_short _ _ c.check_list.ensures _ c.in-Accepted.is
     (sym c.are_a_set.ensures ∙ c.if-not-are_a_set.false)

@@ -7,7 +7,6 @@ use Rattle.capacities.proofs.passes.Goals as goal
 
 pub returns-then-not-line_passes : goal.returns-then-not-line_passes
 returns-then-not-line_passes c =
-    
     let l : _ = c.loop-n in
     let m : _ = c.largest-most.ensures in
     rw (← m) (fails _ _ _ _ _ l.invariant c.loop-n-test.true
@@ -15,8 +14,6 @@ returns-then-not-line_passes c =
 
 pub loop-n-preserved : goal.loop-n-preserved
 loop-n-preserved c =
-    
-    
     let l : _ = c.loop-n in
     let a : _ = c.args in
     rw c.next_depth-deep.ensures

@@ -4,7 +4,4 @@ use Rattle.emit.proofs.copying.Goals as goal
 
 pub returns : goal.returns
 returns c =
-    
-    
-    
     spelt_then c.clearing-cleared.ensures (spelt_then c.sharing-shared.ensures c.returning.ensures)

@@ -4,9 +4,5 @@ use Rattle.emit.proofs.looping.Goals as goal
 
 pub returns : goal.returns
 returns c =
-    
-    
-    
-    
     spelt_then c.sharing-shared.ensures (spelt_then c.returning-returned.ensures
     (spelt_then c.put_instruction-last.ensures c.put_instruction.ensures))

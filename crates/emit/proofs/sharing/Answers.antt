@@ -4,10 +4,5 @@ use Rattle.emit.proofs.sharing.Goals as goal
 
 pub returns : goal.returns
 returns c =
-    
-    
-    
-    
-    
     spelt_then c.put_instruction-second.ensures (spelt_then c.put_instruction-third.ensures
     (spelt_then c.put_instruction-fourth.ensures (spelt_then c.put_instruction-fifth.ensures c.put_instruction.ensures)))

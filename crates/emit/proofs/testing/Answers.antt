@@ -4,7 +4,4 @@ use Rattle.emit.proofs.testing.Goals as goal
 
 pub returns : goal.returns
 returns c =
-    
-    
-    
     spelt_then c.put_instruction-second.ensures (spelt_then c.put_instruction-third.ensures c.put_instruction.ensures)

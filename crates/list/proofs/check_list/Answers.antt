@@ -12,8 +12,6 @@ loop-lines-init c = let a = c.args in (omega arith, at_first a.setting a.list.no
 
 pub returns-in-Fault : goal.returns-in-Fault
 returns-in-Fault c =
-    
-    
     let m = c.loop-lines in
     let args = c.args in
     faulty args.setting args.list.now m.lines m.variables m.count m.openings m.invariant.1 c.loop-lines-test.true
@@ -21,8 +19,6 @@ returns-in-Fault c =
 
 pub loop-lines-preserved : goal.loop-lines-preserved
 loop-lines-preserved c =
-    
-    
     let m = c.loop-lines in
     let args = c.args in
     let so_far = onward args.setting args.list.now m.lines m.variables m.count m.openings m.invariant.1
@@ -31,7 +27,6 @@ loop-lines-preserved c =
 
 pub returns-then-lines-list : goal.returns-then-lines-list
 returns-then-lines-list c =
-    
     let m = c.loop-lines in
     let args = c.args in
     rw c.refused-then-lines-list.ensures
@@ -40,7 +35,6 @@ returns-then-lines-list c =
 
 pub returns : goal.returns
 returns c =
-    
     let m = c.loop-lines in
     let args = c.args in
     c.ended.ensures

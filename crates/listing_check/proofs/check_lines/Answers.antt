@@ -8,18 +8,14 @@ use Rattle.listing_check.proofs.check_lines.Goals as goal
 
 pub returns-in-Fault : goal.returns-in-Fault
 returns-in-Fault c =
-    
     let m = c.loop-i in
-    
     let numbers = c.numbers_at-n.ensures in
     faulty c.args.list.now c.args.lines m.i c.requires m.invariant.1 c.loop-i-test.true
     (c.judge.ensures ∙ ap (λ n. judged (line_fault c.args.lines (m.i + 1) (line_of n))) numbers) c.in-Fault.is
 
 pub loop-i-preserved : goal.loop-i-preserved
 loop-i-preserved c =
-    
     let m = c.loop-i in
-    
     let numbers = c.numbers_at-n.ensures in
     let so_far = onward c.args.list.now c.args.lines m.i c.requires m.invariant.1 c.loop-i-test.true
     (c.judge.ensures ∙ ap (λ n. judged (line_fault c.args.lines (m.i + 1) (line_of n))) numbers) c.in-Passes.is in
@@ -28,5 +24,4 @@ loop-i-preserved c =
 pub returns : goal.returns
 returns c =
     let m = c.loop-i in
-    
     all_pass c.args.list.now c.args.lines m.i c.requires m.invariant.1 c.loop-i-test.false

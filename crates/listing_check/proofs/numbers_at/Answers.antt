@@ -8,5 +8,4 @@ returns-then-list-at c = no_numbers_there c.args.list.now c.args.at (omega (arit
 
 pub returns : goal.returns
 returns c =
-    
     numbers_there c.args.list.now c.args.at (omega (arith, c.if-list-at.false))

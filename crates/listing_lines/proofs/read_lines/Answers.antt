@@ -20,9 +20,6 @@ slice_bounds-numbers_of-end c = omega (arith, within (goal.at.slice_bounds-numbe
 
 pub loop-at-preserved : goal.loop-at-preserved
 loop-at-preserved c =
-    
-    
-    
     lines_next c.loop-at.invariant c.loop-at-test.true (omega arith) c.line_end-end.result c.line_end-end.ensures (within (goal.at.loop-at-preserved c).After-line_end-end)
     c.numbers_of.ensures c.put_line-place.ensures c.onward-at.ensures
 

@@ -15,21 +15,14 @@ is_hash = record { named = refl; numbered = λ n. refl }
 
 pub returns-then-a-ne0 : goal.returns-then-a-ne0
 returns-then-a-ne0 c =
-    
     numbers_one c.args.s.now (c.print_line-a.ensures one is_one) c.if-a-ne0.true
 
 pub returns-then-b-ne0 : goal.returns-then-b-ne0
 returns-then-b-ne0 c =
-    
-    
-    
     numbers_hash c.args.s.now (c.print_line-a.ensures one is_one) c.if-a-ne0.false
     (c.print_line-b.ensures hash is_hash) c.if-b-ne0.true
 
 pub returns : goal.returns
 returns c =
-    
-    
-    
     numbers_scan c.args.s.now (c.print_line-a.ensures one is_one) c.if-a-ne0.false
     (c.print_line-b.ensures hash is_hash) c.if-b-ne0.false c.scan_line.ensures

@@ -7,8 +7,6 @@ use Rattle.listing_numbers.proofs.print_line.Goals as goal
 
 pub returns-then-s-end : goal.returns-then-s-end
 returns-then-s-end c =
-    
-    
     let a = c.args in
     let n = number_there a.s.now 0 a.name.now c.number_after.ensures c.in-To.is in
     let is = sym c.is_register.ensures ∙ c.if-is_register.true in
@@ -16,8 +14,6 @@ returns-then-s-end c =
 
 pub returns-else-s-end : goal.returns-else-s-end
 returns-else-s-end c =
-    
-    
     let a = c.args in
     let n = number_there a.s.now 0 a.name.now c.number_after.ensures c.in-To.is in
     let is = sym c.is_register.ensures ∙ c.if-is_register.true in
@@ -25,8 +21,6 @@ returns-else-s-end c =
 
 pub returns-else-is_register : goal.returns-else-is_register
 returns-else-is_register c =
-    
-    
     let a = c.args in
     let n = number_there a.s.now 0 a.name.now c.number_after.ensures c.in-To.is in
     print_no_register a.kind a.name.now a.s.now n (sym c.is_register.ensures ∙ c.if-is_register.false)

@@ -7,8 +7,6 @@ use Rattle.listing_numbers.proofs.scan_line.Goals as goal
 
 pub returns-then-is_register : goal.returns-then-is_register
 returns-then-is_register c =
-    
-    
     let s = c.args.s.now in
     let n = number_there s 0 (bytes "Scd ") c.number_after.ensures c.in-To.is in
     c.targets.ensures
@@ -16,8 +14,6 @@ returns-then-is_register c =
 
 pub returns-else-is_register : goal.returns-else-is_register
 returns-else-is_register c =
-    
-    
     let s = c.args.s.now in
     let n = number_there s 0 (bytes "Scd ") c.number_after.ensures c.in-To.is in
     scan_no_register s n (sym c.is_register.ensures ∙ c.if-is_register.false)

@@ -7,28 +7,20 @@ use Rattle.listing_numbers.proofs.targets.Goals as goal
 
 pub returns-then-s-end : goal.returns-then-s-end
 returns-then-s-end c =
-    
-    
     let a = c.args in
     let n = number_there a.s.now a.at (bytes " ") c.number_after.ensures c.in-To.is in
-    
     let m = second_target a.s.now a.at a.register n c.number_after-in-To.ensures c.in-To-number_after.is in
     targets-whole a.s.now a.at a.register n m c.if-s-end.true
 
 pub returns-else-s-end : goal.returns-else-s-end
 returns-else-s-end c =
-    
-    
     let a = c.args in
     let n = number_there a.s.now a.at (bytes " ") c.number_after.ensures c.in-To.is in
-    
     let m = second_target a.s.now a.at a.register n c.number_after-in-To.ensures c.in-To-number_after.is in
     targets-more a.s.now a.at a.register n m (omega arith)
 
 pub returns-in-No-number_after : goal.returns-in-No-number_after
 returns-in-No-number_after c =
-    
-    
     let a = c.args in
     let n = number_there a.s.now a.at (bytes " ") c.number_after.ensures c.in-To.is in
     no_second_target a.s.now a.at a.register n c.number_after-in-To.ensures c.in-No-number_after.is

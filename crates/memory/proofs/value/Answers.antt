@@ -8,17 +8,13 @@ returns-then-not-is_memory c = value_refused _ (sym c.is_memory.ensures ∙ c.if
 
 pub bounds-lengths-0 : goal.bounds-lengths-0
 bounds-lengths-0 c =
-    
     first-length _ (sym c.is_memory.ensures ∙ c.if-not-is_memory.false)
 
 pub returns-then-is_tidy : goal.returns-then-is_tidy
 returns-then-is_tidy c =
-    
-    
     rw c.wide.ensures
     (value_read _ (sym c.is_memory.ensures ∙ c.if-not-is_memory.false) (sym c.is_tidy.ensures ∙ c.if-is_tidy.true))
 
 pub returns-else-is_tidy : goal.returns-else-is_tidy
 returns-else-is_tidy c =
-    
     value_untidy _ (sym c.is_memory.ensures ∙ c.if-not-is_memory.false) (sym c.is_tidy.ensures ∙ c.if-is_tidy.false)

@@ -11,7 +11,6 @@ returns-then-not-is_command c = let a = c.args in
 
 pub returns-then-higher-gt-INDEX : goal.returns-then-higher-gt-INDEX
 returns-then-higher-gt-INDEX c =
-    
     let a = c.args in
     let h = sym c.is_command.ensures ∙ c.if-not-is_command.false in
     c.fault-then-higher-gt-INDEX.ensures ∙ fault_5 a.setting a.line a.count a.last a.kind a.index a.source h
@@ -19,8 +18,6 @@ returns-then-higher-gt-INDEX c =
 
 pub returns-then-is_banned : goal.returns-then-is_banned
 returns-then-is_banned c =
-    
-    
     let a = c.args in
     let h = sym c.is_command.ensures ∙ c.if-not-is_command.false in
     c.fault-then-is_banned.ensures ∙ fault_20 a.setting a.line a.count a.last a.kind a.index a.source h
@@ -28,8 +25,6 @@ returns-then-is_banned c =
 
 pub returns-in-4 : goal.returns-in-4
 returns-in-4 c =
-    
-    
     let a = c.args in
     let h = sym c.is_command.ensures ∙ c.if-not-is_command.false in
     c.opened.ensures ∙ of_opening a.setting a.line a.count a.last a.kind a.index a.source h
@@ -38,8 +33,6 @@ returns-in-4 c =
 
 pub returns-in-5 : goal.returns-in-5
 returns-in-5 c =
-    
-    
     let a = c.args in
     let h = sym c.is_command.ensures ∙ c.if-not-is_command.false in
     c.closed.ensures ∙ of_closing a.setting a.line a.count a.last a.kind a.index a.source h
@@ -48,8 +41,6 @@ returns-in-5 c =
 
 pub returns-in_default : goal.returns-in_default
 returns-in_default c =
-    
-    
     let a = c.args in
     let h = sym c.is_command.ensures ∙ c.if-not-is_command.false in
     of_plain a.setting a.line a.count a.last a.kind a.index a.source h

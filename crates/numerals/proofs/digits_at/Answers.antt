@@ -11,8 +11,6 @@ returns-then-b-gt57 c = digits_high c.loop-end.invariant c.loop-end-test.true c.
 
 pub loop-end-preserved : goal.loop-end-preserved
 loop-end-preserved c =
-    
-    
     rw c.grown-value.ensures (digits_more c.loop-end.invariant _ c.loop-end-test.true refl (omega arith) (omega arith))
 
 pub returns : goal.returns

@@ -18,7 +18,6 @@ returns-then-text-at-ne88 c = let a = c.args in
 
 pub returns-then-digits-at : goal.returns-then-digits-at
 returns-then-digits-at c =
-    
     let a = c.args in
     let none = digit_missing a.text.now (a.at + 1) a.most c.digits_at-digits.ensures (omega arith) in
     let same = name_in_primes a.text.now a.at (omega arith) c.if-text-at-ne88.false none in
@@ -26,13 +25,11 @@ returns-then-digits-at c =
 
 pub proper-requires : goal.proper-requires
 proper-requires c =
-    
     let a = c.args in
     digits-within a.text.now (a.at + 1) a.most c.digits_at-digits.ensures (omega arith)
 
 pub returns : goal.returns
 returns c =
-    
     let a = c.args in
     let stands = digit_stands a.text.now (a.at + 1) a.most c.digits_at-digits.ensures (omega arith) in
     let same = name-in_digits a.text.now a.at (omega arith) c.if-text-at-ne88.false stands in

@@ -8,10 +8,9 @@ use Rattle.ones.proofs.all_ones.Goals.{After-wide}
 
 -- its place lies in the store
 inside : (c : After-wide)
-    → 
+    →
     c.loop-i.from + c.wide.result ≤ length c.args.store.now
 inside c =
-    
     let a = c.args in
     let l = c.loop-i in
     rw c.wide.ensures (ones_inside a.capacities.now a.store.now a.lengths.now l.invariant c.requires.room)

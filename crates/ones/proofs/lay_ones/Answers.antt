@@ -6,7 +6,6 @@ use Rattle.ones.proofs.lay_ones.Goals as goal
 
 pub loop-i-preserved : goal.loop-i-preserved
 loop-i-preserved c =
-    
     let a = c.args in
     let inv = c.loop-i.invariant in (
       inv.0,

@@ -22,7 +22,6 @@ ends : (c : In-loop-i)
     → let places = c.offsets-places.result in
     get_or places (c.loop-i.i + 1) 0 ≤ length c.args.store.now
 ends c =
-    
     let l = c.loop-i in
     omega (arith, table_inside c.args.capacities.now _ l.invariant.1 l.i (few c), c.requires.room)
 
@@ -41,7 +40,6 @@ tested : (c : After-is_laid)
     c.is_laid.result ≡ is_place 0 a.capacities.now a.store.now a.lengths.now i
 tested c =
     let a = c.args in
-    
     let l = c.loop-i in
     let from = table_at a.capacities.now _ l.invariant.1 l.i (omega arith) in
     rw (← from)
@@ -64,7 +62,6 @@ slice_bounds-is_laid-end c = ends (goal.at.slice_bounds-is_laid-end c).In-loop-i
 
 pub returns-then-not-is_laid : goal.returns-then-not-is_laid
 returns-then-not-is_laid c =
-    
     let a = c.args in
     sym (places_fail (length a.capacities.now) a.capacities.now a.store.now a.lengths.now c.loop-i.i
     (below (goal.at.returns-then-not-is_laid c).In-loop-i) (sym (tested (goal.at.returns-then-not-is_laid c).After-is_laid) ∙ c.if-not-is_laid.true))

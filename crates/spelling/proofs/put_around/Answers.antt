@@ -5,8 +5,6 @@ use Rattle.spelling.proofs.put_around.Goals as goal
 
 pub returns : goal.returns
 returns c =
-    
-    
     let named = c.put-named.ensures in
     let rest = c.put_name-rest.ensures in
     let end = c.put.ensures in

@@ -25,23 +25,15 @@ module _ (s : Tally) (room : ℕ) (j : Read) (h : j ≡ judged s) where
 
 pub returns-then-room-size : goal.returns-then-room-size
 returns-then-room-size c =
-    
-    
     let a = c.args in
-    
     c.turned_down.ensures ∙ short a.t a.room c.judge.result c.judge.ensures c.in-Done.field-0 c.in-Done.is c.if-room-size.true
 
 pub returns-else-room-size : goal.returns-else-room-size
 returns-else-room-size c =
-    
-    
     let a = c.args in
-    
     fits a.t a.room c.judge.result c.judge.ensures c.in-Done.field-0 c.in-Done.is c.if-room-size.false
 
 pub returns-in-Refused : goal.returns-in-Refused
 returns-in-Refused c =
-    
     let a = c.args in
-    
     refused a.t a.room c.judge.result c.judge.ensures c.in-Refused.r c.in-Refused.is

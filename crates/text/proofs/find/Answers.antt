@@ -6,14 +6,12 @@ use Rattle.text.proofs.find.Goals as goal
 
 pub returns-then-text-i : goal.returns-then-text-i
 returns-then-text-i c =
-    
     let w : _ = c.args.text.now in
     let byte : _ = c.args.byte in
     omega (arith, leading_stop (is_other byte) w c.loop-i.i 0 (omega arith) (rw (eq-eqb _ _ c.if-text-i.true)))
 
 pub loop-i-preserved : goal.loop-i-preserved
 loop-i-preserved c =
-    
     let w : _ = c.args.text.now in
     let byte : _ = c.args.byte in
     omega (arith, leading-more (is_other byte) w c.loop-i.i 0 (omega arith) (rw (ne_eqb _ _ c.if-text-i.false)))

@@ -6,14 +6,12 @@ use Rattle.text.proofs.run_end.Goals as goal
 
 pub returns-then-text-next : goal.returns-then-text-next
 returns-then-text-next c =
-    
     let w : _ = c.args.text.now in
     let byte : _ = c.args.byte in
     omega (arith, leading_stop (is_byte byte) w c.loop-next.next 0 (omega arith) (ne_eqb _ _ c.if-text-next.true))
 
 pub loop-next-preserved : goal.loop-next-preserved
 loop-next-preserved c =
-    
     let w : _ = c.args.text.now in
     let byte : _ = c.args.byte in
     omega (arith, leading-more (is_byte byte) w c.loop-next.next 0 (omega arith) (eq-eqb _ _ c.if-text-next.false))

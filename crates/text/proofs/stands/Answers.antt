@@ -7,14 +7,10 @@ returns-then-text-i c = stands_short c.loop-i.invariant.1 c.loop-i-test.true (om
 
 pub returns-then-text-at : goal.returns-then-text-at
 returns-then-text-at c =
-    
-    
     stands_other c.loop-i.invariant.1 c.loop-i-test.true (omega arith) c.if-text-at.true
 
 pub loop-i-preserved : goal.loop-i-preserved
 loop-i-preserved c =
-    
-    
     (omega arith, stands-more c.loop-i.invariant.1 c.loop-i-test.true (omega arith) c.if-text-at.false)
 
 pub returns : goal.returns

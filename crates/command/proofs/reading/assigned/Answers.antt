@@ -8,24 +8,18 @@ use Rattle.command.proofs.reading.assigned.Goals as goal
 
 pub returns-then-s-last : goal.returns-then-s-last
 returns-then-s-last c =
-    
     let a = c.args in
     let n = name_there a.s.now (a.end + 4) c.name.ensures c.in-To.is in
     λ i f g. c.numbers.ensures ∙ assigned_copy (name-first a.s.now a.end i (omega arith) f g) n c.if-s-last.true
 
 pub are_one-requires : goal.are_one-requires
 are_one-requires c =
-    
-    
     let a = c.args in
     let n = name_there a.s.now (a.end + 4) c.name.ensures c.in-To.is in
     (omega arith, (name_room (omega arith) n, n.within))
 
 pub returns-then-are_one : goal.returns-then-are_one
 returns-then-are_one c =
-    
-    
-    
     let a = c.args in
     let n = name_there a.s.now (a.end + 4) c.name.ensures c.in-To.is in
     λ i f g. c.numbers-then-are_one.ensures
@@ -35,9 +29,6 @@ returns-then-are_one c =
 
 pub returns-else-are_one : goal.returns-else-are_one
 returns-else-are_one c =
-    
-    
-    
     let a = c.args in
     let n = name_there a.s.now (a.end + 4) c.name.ensures c.in-To.is in
     λ i f g. assigned_other (name-first a.s.now a.end i (omega arith) f g) n (omega arith) (omega arith) (omega arith)
@@ -46,8 +37,6 @@ returns-else-are_one c =
 
 pub returns-else-ends : goal.returns-else-ends
 returns-else-ends c =
-    
-    
     let a = c.args in
     let n = name_there a.s.now (a.end + 4) c.name.ensures c.in-To.is in
     λ i f g. assigned_no_back (name-first a.s.now a.end i (omega arith) f g) n (omega arith)

@@ -6,18 +6,12 @@ use Rattle.command.proofs.reading.assignment.Goals as goal
 
 pub returns-then-ends : goal.returns-then-ends
 returns-then-ends c =
-    
-    
     let a = c.args in
     let n = name_there a.s.now 0 c.name.ensures c.in-To.is in
     c.numbers.ensures ∙ assignment_clear a.s.now n (sym c.ends.ensures ∙ c.if-ends.true)
 
 pub assigned-requires : goal.assigned-requires
 assigned-requires c =
-    
-    
-    
-    
     let a = c.args in
     let n = name_there a.s.now 0 c.name.ensures c.in-To.is in
     assignment_room a.s.now n (sym c.ends.ensures ∙ c.if-ends.false)
@@ -25,11 +19,6 @@ assigned-requires c =
 
 pub returns-then-stands : goal.returns-then-stands
 returns-then-stands c =
-    
-    
-    
-    
-    
     let a = c.args in
     let n = name_there a.s.now 0 c.name.ensures c.in-To.is in
     c.assigned.ensures n.value n.is n.kept
@@ -38,10 +27,6 @@ returns-then-stands c =
 
 pub returns-else-stands : goal.returns-else-stands
 returns-else-stands c =
-    
-    
-    
-    
     let a = c.args in
     let n = name_there a.s.now 0 c.name.ensures c.in-To.is in
     assignment_no_arrow a.s.now n (sym c.ends.ensures ∙ c.if-ends.false)

@@ -7,5 +7,4 @@ returns-then-a-ne0 c = numbers_assigned c.args.s.now c.assignment-a.ensures c.if
 
 pub returns : goal.returns
 returns c =
-    
     numbers_paired c.args.s.now c.assignment-a.ensures c.if-a-ne0.false c.pair.ensures

@@ -6,10 +6,6 @@ use Rattle.command.proofs.reading.pair_line.Goals as goal
 
 pub returns-then-ends : goal.returns-then-ends
 returns-then-ends c =
-    
-    
-    
-    
     let a = c.args in
     let front = sym c.stands.ensures ∙ c.if-stands.true in
     c.numbers.ensures
@@ -19,10 +15,6 @@ returns-then-ends c =
 
 pub returns-else-ends : goal.returns-else-ends
 returns-else-ends c =
-    
-    
-    
-    
     let a = c.args in
     pair_no_back a.kind a.front.now a.back.now a.s.now (sym c.stands.ensures ∙ c.if-stands.true)
     (name_there a.s.now (length a.front.now) c.name.ensures c.in-To.is)
@@ -30,8 +22,6 @@ returns-else-ends c =
 
 pub returns-in-No : goal.returns-in-No
 returns-in-No c =
-    
-    
     let a = c.args in
     pair_no_name a.kind a.front.now a.back.now a.s.now (sym c.stands.ensures ∙ c.if-stands.true)
     c.name.ensures c.in-No.is

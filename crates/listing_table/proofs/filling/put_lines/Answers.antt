@@ -10,22 +10,15 @@ loop-i-init c =
 
 pub put_line-requires : goal.put_line-requires
 put_line-requires c =
-    
-    
     line_fits c.args.list.now c.args.lines c.requires.0 c.args.places.now c.requires.1
     c.loop-i-test.true _ c.numbers_at-n.ensures
 
 pub loop-i-preserved : goal.loop-i-preserved
 loop-i-preserved c =
-    
-    
-    
-    
     left_next c.args.list.now c.args.lines c.requires.0 c.args.places.now c.requires.1
     c.loop-i-test.true c.loop-i.invariant _ c.numbers_at-n.ensures _ _ _ refl
     c.place_at-one.ensures c.place_at-hash.ensures c.put_line.ensures
 
 pub returns : goal.returns
 returns c =
-    
     left_none c.args.list.now c.args.lines c.requires.0 c.loop-i-test.false c.loop-i.invariant
