@@ -1,13 +1,13 @@
 -- What `drain` answers, by which of its tests ends it.
 use mathlib.Core.Path.{◌≡◌, refl, sym, ap, ◌∙◌}
-use mathlib.Core.Bool.{Bool, true, false, true≢false, not, ◌&&◌}
+use mathlib.Core.Bool.{Bool, true, false, true≢false, ◌&&◌}
 use mathlib.Core.List.{List}
 use Prim.Native.Nat.{ℕ, ◌*◌, ◌≤◌}
 use native.Mathlib.Nat.{zero-mul}
 use native.Mathlib.Omega.{arith}
 use lib.ListN.{get_or}
 use lib.Dec.{eqb, ltb}
-use borrow.Author.Tests.{ltb-false, not-true, not-false}
+use borrow.Author.Tests.{ltb-false}
 use Rattle.theory.specs.Machines.{capacity_of}
 use Rattle.theory.proofs.Faults.{and_first}
 use Rattle.theory.proofs.GoodMemory.{both}
@@ -16,11 +16,11 @@ use Rattle.drains.proofs.AtOnce.{turns_drain, turns_none, lengths_none, turns-mo
 use Rattle.drains.proofs.Shapes.{drain_cases, drain_back}
 
 -- What a callee answers decides its test
-pub granted : {r t : Bool} → r ≡ t → not r ≡ false → t ≡ true
-granted {r} e h = sym e ∙ not-false r h
+pub granted : {r t : Bool} → r ≡ t → r ≡ true → t ≡ true
+granted e h = sym e ∙ h
 
-pub denied : {r t : Bool} → r ≡ t → not r ≡ true → t ≡ false
-denied {r} e h = sym e ∙ not-true r h
+pub denied : {r t : Bool} → r ≡ t → r ≡ false → t ≡ false
+denied e h = sym e ∙ h
 
 module _ (lengths capacities kinds operands : List ℕ) (i n left : ℕ) where
   abbrev pub Answers : ℕ → List ℕ → Type 0

@@ -23,7 +23,6 @@ turned_at-requires c =
 
 pub returns : goal.returns
 returns c =
-    
     all_done _ _ _ _ _ _ _
     (granted c.deletes.ensures c.if-not-deletes.false)
     (granted c.loops_back.ensures c.if-not-loops_back.false)

@@ -22,11 +22,9 @@ returns-then-operands-to c = sym (back_short _ _ _ _ c.if-n-lt2.false c.if-kinds
 
 pub returns-then-operands-to-2 : goal.returns-then-operands-to-2
 returns-then-operands-to-2 c =
-    
     sym (back_far _ _ _ _ c.if-n-lt2.false c.if-kinds-to-ne-BACKWARD.false c.if-operands-to-2.true)
 
 pub returns : goal.returns
 returns c =
-    
     c.all_append.ensures
     ∙ sym (back_by _ _ _ _ c.if-n-lt2.false c.if-kinds-to-ne-BACKWARD.false c.if-operands-to-2.false)

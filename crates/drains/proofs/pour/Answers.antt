@@ -11,7 +11,6 @@ loop-j-init c = let a = c.args in (search rules, filled_none a.appends.now a.m a
 pub overflow_add-n : goal.overflow_add-n
 overflow_add-n c =
     let l = c.loop-j in
-    
     let a = c.args in
     let r = c.index-r in
     let named = c.requires.named l.j (omega arith) in
@@ -23,7 +22,6 @@ overflow_add-n c =
 pub narrow-requires : goal.narrow-requires
 narrow-requires c =
     let l = c.loop-j in
-    
     let a = c.args in
     let r = c.index-r in
     let named = c.requires.named l.j (omega arith) in
@@ -35,7 +33,6 @@ narrow-requires c =
 pub loop-j-preserved : goal.loop-j-preserved
 loop-j-preserved c =
     let l = c.loop-j in
-    
     let a = c.args in
     let r = c.index-r in
     let named = c.requires.named l.j (omega arith) in (

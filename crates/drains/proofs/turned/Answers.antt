@@ -12,7 +12,6 @@ use Rattle.drains.proofs.turned.Goals as goal
 
 pub returns-then-m-eq0 : goal.returns-then-m-eq0
 returns-then-m-eq0 c =
-    
     let a = c.args in
     let none : turns_of a.lengths.now a.capacities.now a.from a.appends.now a.n a.left ≡ 0 =
     sym c.turns_of-m.ensures ∙ c.if-m-eq0.true in
@@ -20,31 +19,26 @@ returns-then-m-eq0 c =
 
 pub index-a-requires : goal.index-a-requires
 index-a-requires c =
-    
     let some : 1 ≤ c.turns_of-m.result = omega (arith, c.if-m-eq0.false) in
     held_first _ _ _ _ _ _ _ c.turns_of-m.ensures some
 
 pub bounds-lengths-a : goal.bounds-lengths-a
 bounds-lengths-a c =
-    
     let some : 1 ≤ c.turns_of-m.result = omega (arith, c.if-m-eq0.false) in
     held_there _ _ _ _ _ _ _ c.turns_of-m.ensures some _ c.index-a.ensures
 
 pub overflow_sub-held : goal.overflow_sub-held
 overflow_sub-held c =
-    
     let some : 1 ≤ c.turns_of-m.result = omega (arith, c.if-m-eq0.false) in
     omega (arith, c.wide-held.ensures, held_enough _ _ _ _ _ _ _ c.turns_of-m.ensures some _ c.index-a.ensures)
 
 pub bounds-lengths-a-2 : goal.bounds-lengths-a-2
 bounds-lengths-a-2 c =
-    
     let some : 1 ≤ c.turns_of-m.result = omega (arith, c.if-m-eq0.false) in
     held_there _ _ _ _ _ _ _ c.turns_of-m.ensures some _ c.index-a.ensures
 
 pub pour-requires : goal.pour-requires
 pour-requires c =
-    
     let some : 1 ≤ c.turns_of-m.result = omega (arith, c.if-m-eq0.false) in
     let i = c.index-a in
     let a = c.args in
@@ -56,21 +50,18 @@ pour-requires c =
 
 pub overflow_mul-result : goal.overflow_mul-result
 overflow_mul-result c =
-    
     let a = c.args in
     let same = ap (λ m. m * a.n) c.turns_of-m.ensures in
     omega (arith, same, turns-within a.lengths.now a.capacities.now a.from a.appends.now a.n a.left)
 
 pub overflow_cast-result : goal.overflow_cast-result
 overflow_cast-result c =
-    
     let a = c.args in
     let same = ap (λ m. m * a.n) c.turns_of-m.ensures in
     omega (arith, same, turns-within a.lengths.now a.capacities.now a.from a.appends.now a.n a.left)
 
 pub returns : goal.returns
 returns c =
-    
     let some : 1 ≤ c.turns_of-m.result = omega (arith, c.if-m-eq0.false) in
     let i = c.index-a in
     let a = c.args in

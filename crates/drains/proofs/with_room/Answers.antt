@@ -8,6 +8,7 @@ use Rattle.drains.specs.Drains.{with_room}
 use Rattle.drains.proofs.Parts.{room_next, room_all}
 use borrow.Author.Rules.{rules}
 use Rattle.drains.proofs.with_room.Goals as goal
+use Rattle.drains.proofs.with_room.Goals.{then-room-m, else-room-m}
 
 pub loop-j-preserved : goal.loop-j-preserved
 loop-j-preserved c =
@@ -21,14 +22,14 @@ loop-j-preserved c =
     ≡ with_room s.lengths.now s.capacities.now s.from k (drop (l.j + 1) s.appends.now) m = λ m e.
     l.invariant.2 ∙ room_next s.lengths.now s.capacities.now s.from k s.appends.now l.j l.m (omega arith)
     r.result m r.ensures e in
-    ⊎_elim
-    (λ w.
-    let less : r.result / k < l.m = (div-lt_iff_lt-mul some).1 w.0.taken in
-    (search rules, omega (arith, w.1, l.invariant.1), next c.if-room-m.m (omega (arith, w.1))))
-    (λ w.
-    let more : l.m ≤ r.result / k = (le-div_iff_mul-le some).1 w.0.left in
-    (search rules, omega (arith, w.1, l.invariant.1), next c.if-room-m.m (omega (arith, w.1))))
-    c.if-room-m.branch
+    elim c.if-room-m.branch [
+      | then-room-m w ↦
+          let less : r.result / k < l.m = (div-lt_iff_lt-mul some).1 w.if-room-m.true in
+          (search rules, omega (arith, w.m-is, l.invariant.1), next c.if-room-m.m (omega (arith, w.m-is)))
+      | else-room-m w ↦
+          let more : l.m ≤ r.result / k = (le-div_iff_mul-le some).1 w.if-room-m.false in
+          (search rules, omega (arith, w.m-is, l.invariant.1), next c.if-room-m.m (omega (arith, w.m-is)))
+    ]
 
 pub returns : goal.returns
 returns c =

@@ -13,23 +13,19 @@ word_size-size-requires c = (c.requires, (small _ _ _ c.requires).few_lines)
 
 pub returns-then-out-size : goal.returns-then-out-size
 returns-then-out-size c =
-    
-    let p : _ = c.requires in
-    let s : _ = ap (λ z. c.UNKNOWN-symbols) c.word_size-size.ensures.0 in
-    answered_short _ _ _ _ p.accepts.read (omega (arith, s, c.if-out-size.true))
+    let s = ap (λ z. z.symbols) c.word_size-size.ensures.0 in
+    answered_short _ _ _ _ c.requires.accepts.read (omega (arith, s, c.if-out-size.true))
 
 pub put_word-requires : goal.put_word-requires
 put_word-requires c =
-    
-    let s : _ = ap (λ z. c.UNKNOWN-symbols) c.word_size-size.ensures.0 in
-    let k : _ = c.requires in
-    (known_thirds _ _ _ k, noted_thirds _ _ _ k _ c.word_size-size.ensures.1, omega (arith, s, c.if-out-size.false))
+    let k = c.requires in
+    let e = c.word_size-size.ensures in
+    let s = ap (λ z. z.symbols) e.0 in
+    (known_thirds _ _ _ k, noted_thirds _ _ _ k _ e.1, omega (arith, s, c.if-out-size.false))
 
 pub returns : goal.returns
 returns c =
-    
-    let p : _ = c.requires in
-    let e : _ = c.word_size-size.ensures.0 in
-    let s : _ = ap (λ z. c.UNKNOWN-symbols) e in
-    let room : _ = c.if-out-size.false in
-    answered_done _ _ _ _ p.accepts.read _ _ (omega (arith, s, room)) c.put_word.ensures e
+    let e = c.word_size-size.ensures.0 in
+    let s = ap (λ z. z.symbols) e in
+    let room = c.if-out-size.false in
+    answered_done _ _ _ _ c.requires.accepts.read _ _ (omega (arith, s, room)) c.put_word.ensures e

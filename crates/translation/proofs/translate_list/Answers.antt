@@ -5,28 +5,15 @@ use Rattle.translation.proofs.Answering.{answered_refused, listed_known, listed_
 use Rattle.translation.proofs.translate_list.Goals as goal
 
 pub translate_accepted-requires : goal.translate_accepted-requires
-translate_accepted-requires c =
-    
-    listed_known _ _ c.check_list.ensures c.in-Accepted.is
+translate_accepted-requires c = listed_known _ _ c.check_list.ensures c.in-Accepted.is
 
-pub returns-in-Refused-clause-value : goal.returns-in-Refused-clause-value
-returns-in-Refused-clause-value c =
-    (let e : _ = checked_refused (read_list_under _ _) c.check_list.ensures c.in-Refused.is in
-    let a : _ = answered_refused c.args.form _ _ _ e in
-    (a.answers, a.writes)).0
+pub returns-in-Refused : goal.returns-in-Refused
+returns-in-Refused c =
+    let e = checked_refused (read_list_under _ _) c.check_list.ensures c.in-Refused.is in
+    let a = answered_refused c.args.form _ _ _ e in
+    record { value = a.answers; out_after = a.writes }
 
-pub returns-in-Refused-clause-out_after : goal.returns-in-Refused-clause-out_after
-returns-in-Refused-clause-out_after c =
-    (let e : _ = checked_refused (read_list_under _ _) c.check_list.ensures c.in-Refused.is in
-    let a : _ = answered_refused c.args.form _ _ _ e in
-    (a.answers, a.writes)).1
-
-pub returns-in-Accepted-clause-value : goal.returns-in-Accepted-clause-value
-returns-in-Accepted-clause-value c =
-    (let a = rw (listed_outside _ _ c.check_list.ensures c.in-Accepted.is) at c.translate_accepted.ensures in
-    (a.answers, a.writes)).0
-
-pub returns-in-Accepted-clause-out_after : goal.returns-in-Accepted-clause-out_after
-returns-in-Accepted-clause-out_after c =
-    (let a = rw (listed_outside _ _ c.check_list.ensures c.in-Accepted.is) at c.translate_accepted.ensures in
-    (a.answers, a.writes)).1
+pub returns-in-Accepted : goal.returns-in-Accepted
+returns-in-Accepted c =
+    let a = rw (listed_outside _ _ c.check_list.ensures c.in-Accepted.is) at c.translate_accepted.ensures in
+    record { value = a.answers; out_after = a.writes }

@@ -7,51 +7,37 @@ use Rattle.translation.proofs.translate_text.Goals as goal
 
 pub overflow_mul-end : goal.overflow_mul-end
 overflow_mul-end c =
-    let read : _ = c.read.ensures in
-    let k : _ = taken _ _ _ (omega arith) _ _ read.0 c.in-Accepted.is read.1 in
+    let read = c.read.ensures in
+    let k = taken _ _ _ (omega arith) _ _ read.value c.in-Accepted.is read.list_after in
     omega (arith, k.few)
 
 pub slice_bounds-list-end : goal.slice_bounds-list-end
 slice_bounds-list-end c =
-    let read : _ = c.read.ensures in
-    let k : _ = taken _ _ _ (omega arith) _ _ read.0 c.in-Accepted.is read.1 in
-    omega (arith, k.few, c.read.auto.1.1.0)
+    let read = c.read.ensures in
+    let k = taken _ _ _ (omega arith) _ _ read.value c.in-Accepted.is read.list_after in
+    omega (arith, k.few)
 
 pub slice_bounds-translate_accepted-end : goal.slice_bounds-translate_accepted-end
 slice_bounds-translate_accepted-end c =
-    let read : _ = c.read.ensures in
-    let k : _ = taken _ _ _ (omega arith) _ _ read.0 c.in-Accepted.is read.1 in
-    let r : _ = c.read in
-    sym (length-take-le _ r.new.1.1.0 (omega (arith, k.few, r.auto.1.1.0)))
+    let read = c.read.ensures in
+    let k = taken _ _ _ (omega arith) _ _ read.value c.in-Accepted.is read.list_after in
+    sym (length-take-le _ c.read.new.list (omega (arith, k.few)))
 
 pub translate_accepted-requires : goal.translate_accepted-requires
 translate_accepted-requires c =
-    let read : _ = c.read.ensures in
-    let k : _ = taken _ _ _ (omega arith) _ _ read.0 c.in-Accepted.is read.1 in
+    let read = c.read.ensures in
+    let k = taken _ _ _ (omega arith) _ _ read.value c.in-Accepted.is read.list_after in
     k.known
 
-pub returns-in-Refused-clause-value : goal.returns-in-Refused-clause-value
-returns-in-Refused-clause-value c =
-    (let e : _ = unread _ _ _ (omega arith) c.read.ensures.value c.in-Refused.is in
-    let a : _ = answered_refused c.args.form _ _ _ e in
-    (a.answers, a.writes)).0
+pub returns-in-Refused : goal.returns-in-Refused
+returns-in-Refused c =
+    let e = unread _ _ _ (omega arith) c.read.ensures.value c.in-Refused.is in
+    let a = answered_refused c.args.form _ _ _ e in
+    record { value = a.answers; out_after = a.writes }
 
-pub returns-in-Refused-clause-out_after : goal.returns-in-Refused-clause-out_after
-returns-in-Refused-clause-out_after c =
-    (let e : _ = unread _ _ _ (omega arith) c.read.ensures.value c.in-Refused.is in
-    let a : _ = answered_refused c.args.form _ _ _ e in
-    (a.answers, a.writes)).1
-
-pub returns-in-Accepted-clause-value : goal.returns-in-Accepted-clause-value
-returns-in-Accepted-clause-value c =
-    (let read : _ = c.read.ensures in
-    let k : _ = taken _ _ _ (omega arith) _ _ read.0 c.in-Accepted.is read.1 in
-    let a : _ = rw (k.part ∙ sym k.text) at c.translate_accepted.ensures in
-    (a.answers, a.writes)).0
-
-pub returns-in-Accepted-clause-out_after : goal.returns-in-Accepted-clause-out_after
-returns-in-Accepted-clause-out_after c =
-    (let read : _ = c.read.ensures in
-    let k : _ = taken _ _ _ (omega arith) _ _ read.0 c.in-Accepted.is read.1 in
-    let a : _ = rw (k.part ∙ sym k.text) at c.translate_accepted.ensures in
-    (a.answers, a.writes)).1
+pub returns-in-Accepted : goal.returns-in-Accepted
+returns-in-Accepted c =
+    let read = c.read.ensures in
+    let k = taken _ _ _ (omega arith) _ _ read.value c.in-Accepted.is read.list_after in
+    let a = rw (k.part ∙ sym k.text) at c.translate_accepted.ensures in
+    record { value = a.answers; out_after = a.writes }

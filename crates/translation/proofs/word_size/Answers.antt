@@ -11,26 +11,20 @@ block_size-block-requires c = (site _ _ _ c.requires.0, c.requires.1)
 
 pub overflow_add-result : goal.overflow_add-result
 overflow_add-result c =
-    
-    let h : _ = small _ _ _ c.requires.0 in
+    let h = small _ _ _ c.requires.0 in
     omega (arith, h.symbols, ap (λ z. z.symbols) c.block_size-block.ensures.0.size)
 
 pub overflow_add-result-2 : goal.overflow_add-result-2
 overflow_add-result-2 c =
-    
-    
-    
-    let h : _ = small _ _ _ c.requires.0 in
-    let light : _ = added_light c.args.form c.args.variables (omega (arith, h.few_variables)) in
-    omega (arith, h.symbols, ap (λ z. z.symbols) c.block_size-block.ensures.0.size, light, ap (λ z. z.symbols) c.added_size-added.ensures)
+    let h = small _ _ _ c.requires.0 in
+    let block = ap (λ z. z.symbols) c.block_size-block.ensures.0.size in
+    let light = added_light c.args.form c.args.variables (omega (arith, h.few_variables)) in
+    omega (arith, h.symbols, block, light, ap (λ z. z.symbols) c.added_size-added.ensures)
 
 pub returns : goal.returns
 returns c =
-    
-    
-    
-    let k : _ = c.requires in
-    let e : _ = c.block_size-block.ensures in (
+    let k = c.requires in
+    let e = c.block_size-block.ensures in (
       size_is _ _ _ k.0 c.args.form _ e.0 _ c.added_size-added.ensures,
       noting_whole _ _ _ _ _ _ (e.0.ended ∙ whole-lines _ _ _ k.0) k.1 e.1,
     )

@@ -44,42 +44,39 @@ perform-requires c =
 
 pub returns-in-Full : goal.returns-in-Full
 returns-in-Full c =
-    
     let a = c.args in
     let l = c.loop-i in
-    let r = l.inv.0 in
+    let r = l.invariant.0 in
     let q = c.perform in
     let w = c.allowance-allowed in
     let g = going (goal.at.returns-in-Full c).In-loop-i in
     running_full a.capacities.now a.store.now a.lengths.now a.kinds.now a.operands.now a.from a.steps a.budget
-    w.result r c.UNKNOWN-pre.2 w.ensures g.0 g.1 g.2
+    w.result r c.requires.2 w.ensures g.0 g.1 g.2
     (λ i k o. subst
-    (λ (x : Step). Performed a.capacities.now r.registers l.here i x q.new.0 q.new.1.0 q.new.1.1.0)
+    (λ (x : Step). Performed a.capacities.now r.registers l.here i x q.new.store q.new.lengths q.new.starts)
     c.in-Full.is
     (q.ensures r.registers i k o r.held))
 
 pub loop-i-preserved : goal.loop-i-preserved
 loop-i-preserved c =
-    
     let a = c.args in
     let l = c.loop-i in
-    let r = l.inv.0 in
+    let r = l.invariant.0 in
     let q = c.perform in
     let w = c.allowance-allowed in
     let g = going (goal.at.loop-i-preserved c).In-loop-i in (
       running_step a.capacities.now a.store.now a.lengths.now a.kinds.now a.operands.now a.from a.steps
-          a.budget w.result r c.UNKNOWN-pre.2 w.ensures g.0 g.1 g.2 c.in-To.there
+          a.budget w.result r c.requires.2 w.ensures g.0 g.1 g.2 c.in-To.there
           (λ i k o. subst
-          (λ (x : Step). Performed a.capacities.now r.registers l.here i x q.new.0 q.new.1.0 q.new.1.1.0)
+          (λ (x : Step). Performed a.capacities.now r.registers l.here i x q.new.store q.new.lengths q.new.starts)
           c.in-To.is
           (q.ensures r.registers i k o r.held))
-          q.auto.0 q.auto.1.0,
-      q.auto.1.1.0 ∙ l.inv.1,
+          q.auto.store q.auto.lengths,
+      q.auto.starts ∙ l.invariant.1,
     )
 
 pub returns : goal.returns
 returns c =
-    
     let a = c.args in
     let w = c.allowance-allowed in
     rw c.end_at-end.ensures

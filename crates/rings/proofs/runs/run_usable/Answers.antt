@@ -44,20 +44,18 @@ stopped : (c : After-run_rings-s)
     let q = c.run_rings-s in
     let o = run_word (instructions (zipped a.kinds.now a.operands.now)) (memory a.capacities.now a.store.now a.lengths.now)
     (position a.at) a.budget in
-    Stopped (λ f. Ring a.capacities.now f q.new.0 q.new.1.0 q.new.1.1.0) o q.result
+    Stopped (λ f. Ring a.capacities.now f q.new.store q.new.lengths q.new.starts) o q.result
 stopped c =
-    
     let a = c.args in
     let q = c.run_rings-s in
     subst
-    (λ (o : Outcome State). Stopped (λ f. Ring a.capacities.now f q.new.0 q.new.1.0 q.new.1.1.0) o q.result)
+    (λ (o : Outcome State). Stopped (λ f. Ring a.capacities.now f q.new.store q.new.lengths q.new.starts) o q.result)
     (whole_is a.capacities.now a.store.now a.lengths.now c.requires.0 a.kinds.now a.operands.now c.requires.1 a.at
     a.budget _ (begins c.PLACE-Else-n-eq0).1)
     q.ensures
 
 pub returns-then-n-eq0 : goal.returns-then-n-eq0
 returns-then-n-eq0 c =
-    
     let a = c.args in
     let out = entry_outside (length a.kinds.now) a.at.place (sym c.if-n-eq0.true ∙ is (goal.at.returns-then-n-eq0 c).After-entry-n) in
     rw c.strayed.ensures (whole_outside a.capacities.now a.store.now a.lengths.now c.requires.0 a.kinds.now
@@ -65,7 +63,6 @@ returns-then-n-eq0 c =
 
 pub run_rings-s-requires : goal.run_rings-s-requires
 run_rings-s-requires c =
-    
     let a = c.args in
     let few = (memory-sized a.capacities.now a.store.now a.lengths.now c.requires.0).registers in (
       c.requires.0,
@@ -80,16 +77,15 @@ run_rings-s-requires c =
 
 pub returns : goal.returns
 returns c =
-    
     let a = c.args in
-    let sized = memory-sized a.capacities.now a.store.now a.lengths.now c.UNKNOWN-pre.0 in
+    let sized = memory-sized a.capacities.now a.store.now a.lengths.now c.requires.0 in
     let s = stopped (goal.at.returns c).After-run_rings-s in
     let few : a.at.steps ≤ last_count = omega (
       arith,
       c.struct_told-1.is.0.1,
     ) in
     rw c.ran.ensures
-    (whole_stopped a.capacities.now a.store.now a.lengths.now c.UNKNOWN-pre.0 a.kinds.now a.operands.now c.UNKNOWN-pre.1 a.at
+    (whole_stopped a.capacities.now a.store.now a.lengths.now c.requires.0 a.kinds.now a.operands.now c.requires.1 a.at
     a.budget _ _ _
     (record {
       end = s.end;

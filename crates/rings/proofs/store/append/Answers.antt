@@ -25,10 +25,10 @@ pub bounds-store-offsets : goal.bounds-store-offsets
 bounds-store-offsets c = inside (goal.at.bounds-store-offsets c).After-wrapped-at
 
 pub returns-then-n-size : goal.returns-then-n-size
-returns-then-n-size c =
+returns-then-n-size c f x b h =
     let a = c.args in
     let p = c.requires in
     rw (c.wrapped-at.ensures, b, p.3.each a.r p.1) (ring_append h a.r p.1 x c.if-n-size.true)
 
 pub returns-else-n-size : goal.returns-else-n-size
-returns-else-n-size c = ring_full h c.args.r c.requires.1 x c.if-n-size.false
+returns-else-n-size c f x b h = ring_full h c.args.r c.requires.1 x c.if-n-size.false
