@@ -45,12 +45,11 @@ pub returns-in-At : goal.returns-in-At
 returns-in-At c =
     let a = c.args in
     let m = memory a.capacities.now a.store.now a.lengths.now in
-    let i = c.i-1 in
     rw (
       c.turned_down-in-At.ensures,
       refused_15 m a.at a.budget (zipped a.kinds.now a.operands.now) (good (goal.at.returns-in-At c).Else-not-is_memory)
-          i.given.0.0
-          (found _ i.given.0.0 (sym i.given.1 ∙ c.first_unusable.ensures)),
+          c.in-At.i
+          (found _ c.in-At.i (sym c.in-At.is ∙ c.first_unusable.ensures)),
     )
 
 pub returns-in-Nothing : goal.returns-in-Nothing

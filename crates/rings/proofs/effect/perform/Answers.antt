@@ -41,8 +41,7 @@ returns-in_default c f i k o h =
       arith,
       c.requires.2.some,
     ) in
-    let r = c.in_default.in_default-own.rest in
     let done = c.append in
-    let (x, is, byte) = is_append i r.0.0.1 r.0.1 r.1 k (o ∙ e) in
+    let (x, is, byte) = is_append i {k = a.kind} (omega arith) (omega arith) (omega arith) k (o ∙ e) in
     rw (is, c.next_if.ensures)
     (did_append a.capacities.now f a.here _ _ _ (a.operand - 1) x done.result (done.ensures f x (c.symbol_of.ensures ∙ byte) h))

@@ -1,5 +1,6 @@
 -- `run_usable` meets its contract: from outside nothing is done, and from inside the run is that of `run_rings`, put in order.
 use mathlib.Core.Path.{◌≡◌, sym, ap, ◌∙◌, subst}
+use mathlib.Core.Logic.{◌≢◌}
 use Prim.Native.Nat.{suc, ◌+◌, ◌≤◌}
 use native.Mathlib.Omega.{arith}
 use mir.Facts.{to_z-of_z}
@@ -23,35 +24,32 @@ use Rattle.rings.proofs.Ordered.{ring_held}
 use Rattle.rings.proofs.Running.{memory-sized}
 use Rattle.rings.proofs.Whole.{whole_outside, whole_is, whole_stopped}
 use Rattle.rings.proofs.runs.run_usable.Goals as goal
-use Rattle.rings.proofs.runs.run_usable.Goals.{After-entry-n, After-run_rings-s, Else-n-eq0}
+use Rattle.rings.proofs.runs.run_usable.Goals.{After-entry-n, After-run_rings-s}
 
 -- what `entry` returns, of the place itself
 is : (c : After-entry-n) → let a = c.args in c.entry-n.result ≡ entry_of a.at.place (length a.kinds.now)
 is c =
-    let a = c.args in
-    c.entry-n.ensures ∙ ap (λ (z : ℤ). entry_of z (length a.kinds.now))
-    (to_z-of_z {w = w32} {z = a.at.place} (record { sfits = c.struct_told-1.given.0.1 }))
+    c.entry-n.ensures ∙ ap (λ (z : ℤ). entry_of z (length c.args.kinds.now)) (to_z-of_z {w = w32} {z = c.args.at.place} (record { sfits = c.type_inv.at.0.1 }))
 
 -- where the run begins
-begins : (c : Else-n-eq0) → let a = c.args in
-    let n = c.entry-n.result in
-    (n ≤ suc (length a.kinds.now)) × (placed (bias + n) ≡ a.at.place)
-begins c = entry_inside _ _ _ (is c.PLACE-After-entry-n) (omega (arith, c.if-n-eq0.false))
+begins : (c : After-entry-n) → c.entry-n.result ≢ 0
+    → (c.entry-n.result ≤ suc (length c.args.kinds.now)) × (placed (bias + c.entry-n.result) ≡ c.args.at.place)
+begins c some = entry_inside _ _ _ (is c) (omega arith)
 
 -- what the run on rings returns, of the whole run
-stopped : (c : After-run_rings-s)
+stopped : (c : After-run_rings-s) → placed (bias + c.entry-n.result) ≡ c.args.at.place
     → let a = c.args in
     let q = c.run_rings-s in
     let o = run_word (instructions (zipped a.kinds.now a.operands.now)) (memory a.capacities.now a.store.now a.lengths.now)
     (position a.at) a.budget in
     Stopped (λ f. Ring a.capacities.now f q.new.store q.new.lengths q.new.starts) o q.result
-stopped c =
+stopped c place =
     let a = c.args in
     let q = c.run_rings-s in
     subst
     (λ (o : Outcome State). Stopped (λ f. Ring a.capacities.now f q.new.store q.new.lengths q.new.starts) o q.result)
     (whole_is a.capacities.now a.store.now a.lengths.now c.requires.0 a.kinds.now a.operands.now c.requires.1 a.at
-    a.budget _ (begins c.PLACE-Else-n-eq0).1)
+    a.budget _ place)
     q.ensures
 
 pub returns-then-n-eq0 : goal.returns-then-n-eq0
@@ -68,7 +66,7 @@ run_rings-s-requires c =
       c.requires.0,
       record { enough = few; each = λ i l. sym (zeros_at 64 i) },
       c.requires.1,
-      omega (arith, (begins (goal.at.run_rings-s-requires c).Else-n-eq0).0),
+      omega (arith, (begins (goal.at.run_rings-s-requires c).After-entry-n c.if-n-eq0.false).0),
       rw c.offsets-places.ensures (record {
         enough = omega (arith, few, length_offsets a.capacities.now);
         each = λ i l. offsets_at a.capacities.now i (omega (arith, few));
@@ -79,11 +77,8 @@ pub returns : goal.returns
 returns c =
     let a = c.args in
     let sized = memory-sized a.capacities.now a.store.now a.lengths.now c.requires.0 in
-    let s = stopped (goal.at.returns c).After-run_rings-s in
-    let few : a.at.steps ≤ last_count = omega (
-      arith,
-      c.struct_told-1.is.0.1,
-    ) in
+    let s = stopped (goal.at.returns c).After-run_rings-s (begins (goal.at.returns c).After-entry-n c.if-n-eq0.false).1 in
+    let few : a.at.steps ≤ last_count = omega (arith, (goal.at.returns c).After-entry-n.type_inv.at.1.0.1) in
     rw c.ran.ensures
     (whole_stopped a.capacities.now a.store.now a.lengths.now c.requires.0 a.kinds.now a.operands.now c.requires.1 a.at
     a.budget _ _ _
