@@ -103,8 +103,20 @@ def path_only(code, word):
     return not re.search(r"(?<![^\s(){}@,;])" + re.escape(word) + r"(?![\w-])", code)
 
 
+QUOTED = re.compile(r'"(?:[^"\\\n]|\\.)*"?')
+
+
 def turned(text, rows, keep):
-    return WORD.sub(lambda m: rows.get(m[0], m[0]) if m[0] not in keep else m[0], text)
+    """The text with its names turned, but for what stands in quotes."""
+
+    def bare(part):
+        return WORD.sub(lambda m: rows.get(m[0], m[0]) if m[0] not in keep else m[0], part)
+
+    out, at = [], 0
+    for m in QUOTED.finditer(text):
+        out += [bare(text[at : m.start()]), m[0]]
+        at = m.end()
+    return "".join(out) + bare(text[at:])
 
 
 def main():

@@ -41,7 +41,7 @@ fn put_end(out: &mut [u8], place: usize, end: End) -> usize
 pub fn put_header(out: &mut [u8]) -> usize
     ensures { Put header 0 out.old out.new result }
 {
-    put_bytes(out, 0, b"source-end source_steps word-end word_steps X0\n")
+    put_bytes(out, 0, b"source-end source-steps word-end word-steps X0\n")
 }
 
 // A number, and the blank or LF after it.

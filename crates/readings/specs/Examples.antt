@@ -19,7 +19,7 @@ bench =
     ∷ text (times 512 (bytes "X0 <- 0\n")) passes
     ∷ text (times 513 (bytes "X0 <- 0\n")) (refuse 3 513)
     ∷ prints (bytes "loop X1\nX0 <- X0 + 1\nendloop X1\n") (bytes "X1\n3\n0\n")
-    "source-end source_steps word-end word_steps X0\nhalted 7 halted 37 3\nhalted 1 halted 7 0\n"
+    "source-end source-steps word-end word-steps X0\nhalted 7 halted 37 3\nhalted 1 halted 7 0\n"
     ∷ []
 
 abbrev pub ExamplesHold : Type 0

@@ -326,7 +326,7 @@ printed_line e n x e' m y = shown
     (record { end = e'; steps = m; state = fresh_word 1 (λ i. y) })
 
 abbrev pub header : String
-header = "source-end source_steps word-end word_steps X0\n"
+header = "source-end source-steps word-end word-steps X0\n"
 
 -- What the run tool prints
 unfoldable pub reports : List Example
@@ -344,9 +344,9 @@ reports =
 -- The runs that it prints
 unfoldable pub printed_runs : List Example
 printed_runs =
-    prints [] (bytes "\n\n") "source-end source_steps word-end word_steps X0\nhalted 0 halted 1 0\n"
-    ∷ prints (bytes "X0 <- X0 + 1\n") (bytes "X0\n1024\n") "source-end source_steps word-end word_steps X0\nfull 0 full 1 1024\n"
-    ∷ prints (bytes "X0 <- X1\n") (bytes "X1 X0\n7 2\n") "source-end source_steps word-end word_steps X0\nhalted 1 halted 60 7\n"
+    prints [] (bytes "\n\n") "source-end source-steps word-end word-steps X0\nhalted 0 halted 1 0\n"
+    ∷ prints (bytes "X0 <- X0 + 1\n") (bytes "X0\n1024\n") "source-end source-steps word-end word-steps X0\nfull 0 full 1 1024\n"
+    ∷ prints (bytes "X0 <- X1\n") (bytes "X1 X0\n7 2\n") "source-end source-steps word-end word-steps X0\nhalted 1 halted 60 7\n"
     ∷ []
 
 -- A report on other registers: its order, and the runs. X0 has the first capacity, X1 the second, and the scratch register the third
@@ -361,15 +361,15 @@ printed_on =
     ∷ prints_on (replicate 64 5) (bytes "X0 <- X1\n") [] "refused 16 0\n"
     ∷ prints_on (3 ∷ replicate 63 5) (bytes "X0 <- X1\n") (bytes "X0\n4\n") "refused 18 2\n"
     ∷ prints_on (3 ∷ replicate 63 5) (bytes "X0 <- X1\n") (bytes "X0 X1\n2 4\n2 3\n")
-    "source-end source_steps word-end word_steps X0\nfull 0 full 20 2\nhalted 1 halted 32 3\n"
+    "source-end source-steps word-end word-steps X0\nfull 0 full 20 2\nhalted 1 halted 32 3\n"
     ∷ []
 
 -- The same of programs and sheets with primes
 unfoldable pub primed_runs : List Example
 primed_runs =
     prints (bytes "loop X'\nX <- X0 + 1\nendloop X1\n") (bytes "X'\n3\n0\n")
-    "source-end source_steps word-end word_steps X0\nhalted 7 halted 37 3\nhalted 1 halted 7 0\n"
-    ∷ prints (bytes "X <- X'\n") (bytes "X' X\n7 2\n") "source-end source_steps word-end word_steps X0\nhalted 1 halted 60 7\n"
+    "source-end source-steps word-end word-steps X0\nhalted 7 halted 37 3\nhalted 1 halted 7 0\n"
+    ∷ prints (bytes "X <- X'\n") (bytes "X' X\n7 2\n") "source-end source-steps word-end word-steps X0\nhalted 1 halted 60 7\n"
     ∷ prints (bytes "X <- X'''\n") (bytes "X''''\n") "refused 17 1\n"
     ∷ prints (bytes "X <- X'''\n") (bytes "X'''\n") header
     ∷ prints (bytes "X3' <- 0\n") (bytes "X3'\n") "refused 4 1\n"
@@ -391,7 +391,7 @@ unequal =
 unfoldable pub budgets : List Example
 budgets =
     prints (bytes "while X0 != 0\nendwhile X0 != 0\n") (bytes "X0\n1\n")
-    "source-end source_steps word-end word_steps X0\nspent 100000 spent 1000000 1\n"
+    "source-end source-steps word-end word-steps X0\nspent 100000 spent 1000000 1\n"
     ∷ []
 
 -- All of them

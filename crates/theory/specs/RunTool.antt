@@ -43,7 +43,7 @@ abbrev pub tool_word : List Command → (ℕ → ℕ) → Outcome W.State
 tool_word = word_on tool_capacities
 
 abbrev pub header : Bytes
-header = line_of (bytes "source-end" ∷ bytes "source_steps" ∷ bytes "word-end" ∷ bytes "word_steps" ∷ bytes "X0" ∷ [])
+header = line_of (bytes "source-end" ∷ bytes "source-steps" ∷ bytes "word-end" ∷ bytes "word-steps" ∷ bytes "X0" ∷ [])
 
 -- "Fields: how the source ended, its steps, how the word ended, its steps, the source's X0 then"
 unfoldable pub shown : Outcome S.State → Outcome W.State → Bytes

@@ -17,7 +17,7 @@ loop-i-preserved c =
       rw (add-one, offset-next operands l.i) (ap (λ (k : ℕ). k + get_or operands l.i 0) l.invariant.1),
       omega arith,
       λ q. elim c.if-operand-eq0.branch [
-        then-operand-eq0 w ↦ never (cc (w.ok-is, q))
+        | then-operand-eq0 w ↦ never (cc (w.ok-is, q))
         | else-operand-eq0 w ↦ each_more (λ j. 1 ≤ get_or operands j 0) l.i (l.invariant.3 (cc (w.ok-is, q))) (omega arith)
       ],
     )

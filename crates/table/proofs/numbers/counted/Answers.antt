@@ -47,5 +47,5 @@ returns c =
     let a = c.args in
     let z = zipped-length a.kinds.now a.operands.now in
     let all = take_all l.i (zipped a.kinds.now a.operands.now)
-        (omega (arith, z, c.longer-count.ensures, c.loop-i-test.false)) in
+    (omega (arith, z, c.longer-count.ensures, c.loop-i-test.false)) in
     l.invariant.1 ∙ ap tally_of all
