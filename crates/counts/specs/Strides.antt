@@ -9,7 +9,6 @@ use Rattle.underway.specs.Inside.{machine_of}
 use Rattle.counts.specs.declared.steps.Stride.{Stride}
 use Rattle.counts.specs.declared.steps.Stride.TheVariants.{To, Full}
 use Rattle.counts.specs.declared.stretches.Reached.{Reached}
-use Rattle.counts.specs.declared.stretches.Reached.TheVariants as Reached
 use Rattle.counts.specs.Counts.{Counts}
 
 -- A 1 was taken from register r, counted from 0; or there is none

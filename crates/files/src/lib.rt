@@ -7,8 +7,18 @@ use std::fs::File;
 use std::io::Read;
 use std::rt::Files;
 
-// Reads a file as far as the buffer goes. One that cannot be read counts as empty.
-pub fn read_file(rt: &impl Files, path: &str, buffer: &mut [u8]) -> usize
+// Reads a file as far as the buffer goes. One that cannot be read counts as empty; a path is text in UTF-8.
+pub fn read_file(rt: &impl Files, path: &[u8], buffer: &mut [u8]) -> usize
+    ensures { IsPrefixLen result buffer.new }
+{
+    match str::from_utf8(path) {
+        Ok(name) => read_named(rt, name, buffer),
+        Err(_) => 0,
+    }
+}
+
+// The same of a path as text.
+fn read_named(rt: &impl Files, path: &str, buffer: &mut [u8]) -> usize
     ensures { IsPrefixLen result buffer.new }
 {
     let Ok(mut file) = File::open(rt, path) else {

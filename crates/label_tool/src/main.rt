@@ -29,7 +29,7 @@ fn put_label(text: &[u8], out: &mut [u8]) -> usize
 fn main(rt: HostRuntime) -> io::Result<()> {
     let mut text = [0u8; 16385];
     let mut out = [0u8; 600001];
-    let t = read_file(&rt, "program.txt", &mut text);
+    let t = read_file(&rt, b"program.txt", &mut text);
     let n = put_label(&text[..t], &mut out);
     rt.write_all(&out[..n])
 }

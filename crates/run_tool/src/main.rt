@@ -10,8 +10,8 @@ fn main(rt: HostRuntime) -> io::Result<()> {
     let mut text = [0u8; 16385];
     let mut sheet = [0u8; 4097];
     let mut out = [0u8; Reported::MOST];
-    let t = read_file(&rt, "program.txt", &mut text);
-    let s = read_file(&rt, "sheet.txt", &mut sheet);
+    let t = read_file(&rt, b"program.txt", &mut text);
+    let s = read_file(&rt, b"sheet.txt", &mut sheet);
     match report::report(&text[..t], &sheet[..s], &mut out) {
         Reported::Done(n) => rt.write_all(&out[..n]),
         Reported::Refused(_) => Ok(()),

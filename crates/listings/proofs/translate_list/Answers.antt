@@ -13,20 +13,17 @@ fresh = replicate most_entries 0
 
 pub write_table-requires : goal.write_table-requires
 write_table-requires c =
-    
     let a = c.args in
     list_room a.word.now a.list.now fresh fresh c.fill.ensures
     c.in-Done.is refl refl
 
 pub returns-in-Refused : goal.returns-in-Refused
 returns-in-Refused c =
-    
     let a = c.args in
     list_refused a.word.now a.list.now fresh fresh c.fill.ensures c.in-Refused.is
 
 pub returns-in-Done : goal.returns-in-Done
 returns-in-Done c =
-    
     let a = c.args in
     list_answered a.word.now a.list.now fresh fresh c.fill.ensures
     c.in-Done.is refl refl c.write_table.ensures

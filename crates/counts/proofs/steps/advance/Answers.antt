@@ -1,7 +1,8 @@
 -- `advance` meets its contract: in each arm the kind decides the instruction, and what the called function did is what the definition does.
 use mathlib.Core.Path.{◌≡◌, refl, ap}
+use mathlib.Core.Logic.{◌≢◌}
 use mathlib.Core.Bool.{true}
-use Prim.Native.Nat.{◌-◌}
+use Prim.Native.Nat.{ℕ, ◌-◌}
 use native.Mathlib.Omega.{arith}
 use borrow.Author.Tests.{lt-ltb}
 use lib.ListN.{length, get_or}
@@ -9,7 +10,7 @@ use Rattle.theory.specs.TurnedDown.{names_register}
 use Rattle.underway.specs.Inside.{Usable}
 use Rattle.counts.proofs.Single.{strode_forward, strode_back, strode_cases, strode_append}
 use Rattle.counts.proofs.steps.advance.Goals as goal
-use Rattle.counts.proofs.steps.advance.Goals.{In_default, Start}
+use Rattle.counts.proofs.steps.advance.Goals.{Start}
 
 -- the instruction that stands here can be done
 usable : (c : Start)
@@ -19,24 +20,17 @@ usable : (c : Start)
 usable c = c.requires.0.usable.each _ (omega (arith, c.requires.1, c.requires.2))
 
 -- kinds are 1 to 5, so that what is none of 3 to 5 is an append, which names a register
-names : (c : In_default)
-    → let a = c.args in
-    names_register (get_or a.kinds.now (a.here - 1000000 - 1) 0) ≡ true
-names c =
-    let r = c.in_default.in_default-own.rest in
-    rw (lt-ltb (get_or c.args.kinds.now (c.args.here - 1000000 - 1) 0) 3
-    (omega (arith, (usable c.PLACE-Start).last, r.0.0.1, r.0.1, r.1)))
+names : (count kind operand : ℕ) → Usable count kind operand → kind ≢ 3 → kind ≢ 4 → kind ≢ 5 → names_register kind ≡ true
+names count kind operand u no_3 no_4 no_5 = rw (lt-ltb kind 3 (omega (arith, u.last)))
 
 pub returns-in-3 : goal.returns-in-3
 returns-in-3 c =
-    
     let a = c.args in
     strode_forward a.capacities.now a.lengths.now a.kinds.now a.operands.now c.requires.0 a.here c.requires.1 c.requires.2
     a.left c.requires.3 _ c.in-3.is refl (usable (goal.at.returns-in-3 c).Start).small
 
 pub returns-in-4 : goal.returns-in-4
 returns-in-4 c =
-    
     let a = c.args in
     let n = get_or a.operands.now (a.here - 1000000 - 1) 0 in
     strode_back a.capacities.now a.lengths.now a.kinds.now a.operands.now c.requires.0 a.here c.requires.1 c.requires.2
@@ -45,7 +39,6 @@ returns-in-4 c =
 
 pub returns-in-5 : goal.returns-in-5
 returns-in-5 c =
-    
     let a = c.args in
     let u = usable (goal.at.returns-in-5 c).Start in
     let n = get_or a.operands.now (a.here - 1000000 - 1) 0 in
@@ -59,15 +52,13 @@ returns-in-5 c =
 
 pub returns-in_default : goal.returns-in_default
 returns-in_default c =
-    
     let a = c.args in
     let u = usable (goal.at.returns-in_default c).Start in
     let n = get_or a.operands.now (a.here - 1000000 - 1) 0 in
-    let r = c.in_default.in_default-own.rest in
     rw c.after_append.ensures
     (strode_append a.capacities.now a.lengths.now a.kinds.now a.operands.now c.requires.0 a.here c.requires.1 c.requires.2
     a.left c.requires.3 (n - 1) (omega (arith, u.some))
-    (omega (arith, u.some, u.named (names (goal.at.returns-in_default c).In_default), c.requires.0.paired))
+    (omega (arith, u.some, u.named (names _ _ _ u (omega arith) (omega arith) (omega arith)), c.requires.0.paired))
     (omega (arith, c.requires.2, c.requires.0.usable.count))
-    c.add_one.result _ r.0.0.1 r.0.1 r.1
+    c.add_one.result _ (omega arith) (omega arith) (omega arith)
     (c.requires.0.no_hash _ (omega (arith, c.requires.1, c.requires.2))) c.add_one.ensures)

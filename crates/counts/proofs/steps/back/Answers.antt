@@ -7,7 +7,6 @@ use Rattle.counts.proofs.steps.back.Goals as goal
 -- the turns take no more steps than there are left
 pub overflow_add-result : goal.overflow_add-result
 overflow_add-result c =
-    
     let a = c.args in
     omega (
       arith,
@@ -15,5 +14,5 @@ overflow_add-result c =
       drain_steps_within a.lengths.now a.capacities.now a.kinds.now a.operands.now (a.there - 1000000 - 1) a.n
           (a.left - 1),
       c.requires,
-      c.UNKNOWN-ranges.left,
+      c.ranges.left,
     )

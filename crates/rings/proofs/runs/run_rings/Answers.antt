@@ -1,3 +1,4 @@
+-- The goals of `run_rings`: a run that goes on stands at an instruction, and what it did is a step of the definition.
 use mathlib.Core.Path.{refl, sym, ◌∙◌, subst}
 use Prim.Native.Nat.{◌+◌, ◌-◌, ◌≤◌, ◌<◌}
 use native.Mathlib.Omega.{arith}

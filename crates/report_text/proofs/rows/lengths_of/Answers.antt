@@ -1,0 +1,5 @@
+use Rattle.report_text.proofs.Fresh.{started_none}
+use Rattle.report_text.proofs.rows.lengths_of.Goals as goal
+
+pub loop-i-init : goal.loop-i-init
+loop-i-init c = started_none _
