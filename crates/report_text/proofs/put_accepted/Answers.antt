@@ -6,8 +6,6 @@ use Rattle.report_text.proofs.put_accepted.Goals as goal
 
 pub put_roomy-requires : goal.put_roomy-requires
 put_roomy-requires c =
-    
-    
     let a = c.args in
     let list = a.list.now in (
       c.requires,
@@ -17,9 +15,6 @@ put_roomy-requires c =
 
 pub returns-in-Refused : goal.returns-in-Refused
 returns-in-Refused c =
-    
-    
-    
     let a = c.args in
     let list = a.list.now in
     let capacities = a.capacities.now in

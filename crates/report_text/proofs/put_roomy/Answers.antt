@@ -14,18 +14,15 @@ use Rattle.report_text.proofs.put_roomy.Goals as goal
 use Rattle.report_text.proofs.put_roomy.Goals.{After-check-found}
 
 -- by the first capacities
-checked_as : (k : After-check-found) → 
+checked_as : (k : After-check-found) →
     k.check-found.result ≡ sheet_answer (min k.args.variables 32) (of_variables k.args.capacities.now)
     k.args.sheet.now
 checked_as k =
-    
     k.check-found.ensures
     ∙ ap {B = Sheet} (λ l. sheet_answer (min k.args.variables 32) l k.args.sheet.now) k.of_variables.ensures
 
 pub put_translated-requires : goal.put_translated-requires
 put_translated-requires c =
-    
-    
     let few = listed_few _ _ c.requires.0 in
     let accepted = found_accepted c.args.capacities.now c.args.variables c.args.sheet.now few
     c.check-found.result (checked_as (goal.at.put_translated-requires c).After-check-found) in
@@ -33,14 +30,12 @@ put_translated-requires c =
 
 pub returns-in-Refused : goal.returns-in-Refused
 returns-in-Refused c =
-    
-    
     let list = c.args.list.now in
     let capacities = c.args.capacities.now in
     let K = c.args.variables in
     let s = c.args.sheet.now in
     let few = listed_few _ _ c.requires.0 in
-    
+
     let r = c.in-Refused.r in
     let down = found_refused capacities K s few c.check-found.result (checked_as (goal.at.returns-in-Refused c).After-check-found) r c.in-Refused.is in
     let fault = subst (λ k. sheet_fault_for k (of_variables capacities) s ≡ some r) c.requires.0.named down in

@@ -18,40 +18,35 @@ ready : {list kinds operands : List ℕ} {K : ℕ} → Tabled list kinds operand
 ready t = record { listed = t.listed; translated = refl }
 
 -- The limits of the variables are the first capacities
-limits_are : (l : At-loop-at) → 
+limits_are : (l : At-loop-at) →
     l.of_variables-limits.result ≡ of_variables l.args.capacities.now
 limits_are l = l.of_variables-limits.ensures
 
 -- What is known in a turn of the loop
-turn_at : (c : After-row-line) → 
+turn_at : (c : After-row-line) →
     let a = c.args in
     let header = c.put_header-place in
-    Turn a.capacities.now a.list.now a.sheet.now a.variables header.result header.new.0
+    Turn a.capacities.now a.list.now a.sheet.now a.variables header.result header.new.out
     c.loop-at.at c.loop-at.n c.loop-at.place c.loop-at.out c.row-line.result
 turn_at c =
-    
-    
     let a = c.args in
     turn a.capacities.now a.list.now (word_text (commands a.list.now)) a.sheet.now a.names a.variables
     (ready c.requires.0) c.requires.2
     _ _ c.loop-at.at c.loop-at.n c.loop-at.place c.loop-at.out c.loop-at.invariant
     c.loop-at-test.true c.row-line.result
-    (c.row-line.ensures ∙ ap {B = Row} (λ m. row_answer a.sheet.now a.names m c.loop-at.n c.loop-at.at) (limits_are c.PLACE-At-loop-at))
+    (c.row-line.ensures ∙ ap {B = Row} (λ m. row_answer a.sheet.now a.names m c.loop-at.n c.loop-at.at) c.of_variables-limits.ensures)
 
 pub loop-at-init : goal.loop-at-init
 loop-at-init c =
-    
     let a = c.args in
     let header = c.put_header-place in
     let word = word_text (commands a.list.now) in
     rows_begin a.capacities.now a.list.now word a.sheet.now a.names a.variables (ready c.requires.0) c.requires.2
-    header.result header.new.0 c.first_row-at.result c.first_row-at.ensures (omega (arith, header.ensures.next))
+    header.result header.new.out c.first_row-at.result c.first_row-at.ensures (omega (arith, header.ensures.next))
     (omega (arith, put-length header.ensures, header.ensures.sized))
 
 pub run_row-row-requires : goal.run_row-row-requires
 run_row-row-requires c =
-    
-    
     (c.requires.0, c.requires.1, limits_are (goal.at.run_row-row-requires c).At-loop-at, (turn_at (goal.at.run_row-row-requires c).After-row-line).starts)
 
 pub loop-at-smaller : goal.loop-at-smaller
@@ -61,16 +56,14 @@ loop-at-smaller c =
 
 pub loop-at-preserved : goal.loop-at-preserved
 loop-at-preserved c =
-    
     let t = turn_at (goal.at.loop-at-preserved c).After-row-line in
     t.puts c.run_row-row.result c.run_row-row.ensures _ _ c.put_row-place.ensures
 
 pub returns : goal.returns
 returns c =
-    
     let a = c.args in
     let header = c.put_header-place in
     let l = c.loop-at in
     rows-printed a.capacities.now a.list.now (word_text (commands a.list.now)) a.sheet.now a.names a.variables
     (ready c.requires.0) c.requires.2
-    header.result l.place l.at l.n a.out.now header.new.0 l.out header.ensures l.invariant c.loop-at-test.false
+    header.result l.place l.at l.n a.out.now header.new.out l.out header.ensures l.invariant c.loop-at-test.false

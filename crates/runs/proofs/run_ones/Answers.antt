@@ -30,11 +30,10 @@ slice_bounds-lay_ones-end c =
 
 pub returns : goal.returns
 returns c =
-    
     let a = c.args in
     rw (
       c.lay_ones.ensures,
       copied_take a.lengths.now _ c.copied-before.ensures (few (goal.at.returns c).Start),
     )
-    (ran-ones a.capacities.now a.store.now a.lengths.now a.kinds.now a.operands.now a.at a.budget c.UNKNOWN-pre _ _
+    (ran-ones a.capacities.now a.store.now a.lengths.now a.kinds.now a.operands.now a.at a.budget c.requires _ _
     c.run-counted.ensures)

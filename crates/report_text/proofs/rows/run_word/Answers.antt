@@ -13,15 +13,10 @@ lengths_size c = search rules
 
 pub lengths_of-lengths-requires : goal.lengths_of-lengths-requires
 lengths_of-lengths-requires c =
-    
     (c.requires.1.few, λ i. omega (arith, c.requires.1.within i, low_anywhere c.args.capacities.now c.requires.0 i))
 
 pub returns-in-Ran : goal.returns-in-Ran
-returns-in-Ran c =
-    
-    
-    
-    
+returns-in-Ran c p accepted table named =
     let a = c.args in
     c.of_word.ensures
     ∙ counted-ends p accepted a.kinds.now a.operands.now table a.capacities.now c.requires.0 a.values.now c.requires.1
@@ -30,10 +25,7 @@ returns-in-Ran c =
     c.run.result c.run.new.lengths c.run.ensures c.in-Ran.run' c.in-Ran.is
 
 pub returns-in-Other : goal.returns-in-Other
-returns-in-Other c =
-    
-    
-    
+returns-in-Other c p accepted table named =
     let a = c.args in
     absurd
     (never_other p accepted a.kinds.now a.operands.now table a.capacities.now c.requires.0 a.values.now c.requires.1
