@@ -46,7 +46,3 @@ pub numbers_end : (t : List Instruction) (j n : ℕ) → j ≡ n
     → ◌≡◌ {A = Numbers} (record { kinds = copied_at kind_in t j; operands = copied_at operand_in t j }) (numbers_of (entries_of t) n)
 unfolding copied_at numbers_of
 numbers_end t j n e = ap (λ (k : ℕ). numbers_of (entries_of t) k) e
-
--- An array in a struct is spelled by its elements, each as it is
-abbrev pub same : List ℕ → List ℕ
-same = map (λ v. v)

@@ -34,20 +34,17 @@ module _ (w : List ℕ) (room : ℕ) where
 
 pub returns-then-room-n : goal.returns-then-room-n
 returns-then-room-n c =
-    
     let m : _ = counted c.args.word.now c.in-Done.n (sym c.in-Done.is
     ∙ c.measure.ensures) in
     c.refused.ensures ∙ no_room c.args.word.now c.args.room m.0 (omega (arith, m.1, c.if-room-n.true))
 
 pub returns-else-room-n : goal.returns-else-room-n
 returns-else-room-n c =
-    
     let m : _ = counted c.args.word.now c.in-Done.n (sym c.in-Done.is
     ∙ c.measure.ensures) in
     ap Done m.1 ∙ enough_room c.args.word.now c.args.room m.0 (omega (arith, m.1, c.if-room-n.false))
 
 pub returns-in-Refused : goal.returns-in-Refused
 returns-in-Refused c =
-    
     turned_down c.args.word.now c.args.room c.in-Refused.r (sym c.in-Refused.is
     ∙ c.measure.ensures)

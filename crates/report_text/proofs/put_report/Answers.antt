@@ -42,7 +42,6 @@ returns-in-Refused c =
     let read = c.read in
     let refused = sym c.in-Refused.is ∙ read.ensures.value in
     let down = text-turned_down (replicate 1536 0) _ (length-replicate {A = ℕ} 1536 0) c.in-Refused.r refused in
-
     refusal-printed _ (text_refused c.args.capacities.now _ c.args.sheet.now _ down)
     c.put_refusal.ensures
 
@@ -50,5 +49,4 @@ pub returns-in-Accepted : goal.returns-in-Accepted
 returns-in-Accepted c =
     let r = passing (goal.at.returns-in-Accepted c).In-Accepted in
     let printed = rw (front-commands _ _ _ r) at c.put_accepted.ensures in
-
     rw (text_accepted c.args.capacities.now _ c.args.sheet.now r.program r.text) printed

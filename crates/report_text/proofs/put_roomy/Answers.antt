@@ -35,7 +35,6 @@ returns-in-Refused c =
     let K = c.args.variables in
     let s = c.args.sheet.now in
     let few = listed_few _ _ c.requires.0 in
-
     let r = c.in-Refused.r in
     let down = found_refused capacities K s few c.check-found.result (checked_as (goal.at.returns-in-Refused c).After-check-found) r c.in-Refused.is in
     let fault = subst (λ k. sheet_fault_for k (of_variables capacities) s ≡ some r) c.requires.0.named down in

@@ -1,3 +1,4 @@
+-- `put_rows` meets its contract: a turn of the loop puts one row, and at the end all are put.
 use mathlib.Core.Path.{◌≡◌, refl, ap, ◌∙◌}
 use mathlib.Core.List.{List}
 use Prim.Native.Nat.{ℕ}
