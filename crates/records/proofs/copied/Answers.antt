@@ -1,5 +1,5 @@
 -- A turn copies one record's numbers after those before it; at the end all are copied.
-use Rattle.std.proofs.Common.{arith, refl, ◌∙◌}
+use Rattle.std.proofs.Common.{arith, refl}
 use Rattle.records.proofs.Copies.{copied_none, copied_next, numbers_end, kind_in, operand_in}
 use Rattle.records.proofs.copied.Goals as goal
 

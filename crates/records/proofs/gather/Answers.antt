@@ -1,5 +1,5 @@
 -- `gather` meets its contract: the count is within the table, and all that the table is judged to have is gathered.
-use Rattle.std.proofs.Common.{arith, ap, length, ◌∙◌, ◌≡◌}
+use Rattle.std.proofs.Common.{arith, ap, ◌∙◌, ◌≡◌}
 use Rattle.std.proofs.lemmas.List.{length-map}
 use Rattle.word.specs.Answers.{entry_of, entries_of}
 use Rattle.tally.specs.Tallies.{tally_of}

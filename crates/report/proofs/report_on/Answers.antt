@@ -18,7 +18,7 @@ returns c =
     let put = c.put_report-2.ensures in
     let room : length (report_on c.args.capacities.now c.args.text.now c.args.sheet.now) ≤ length c.args.out.now
     = elim c.if-out-lt-MOST.branch [
-      then-out-lt-MOST+else-out-put_report w ↦ omega (arith, w.put_report.ensures.put.next, w.put_report.ensures.few, w.if-out-put_report.false)
+      | then-out-lt-MOST+else-out-put_report w ↦ omega (arith, w.put_report.ensures.put.next, w.put_report.ensures.few, w.if-out-put_report.false)
       | else-out-lt-MOST w ↦ omega (arith, put.put.next, put.few, w.if-out-lt-MOST.false)
     ] in
     let done = report_done c.args.out.now c.args.capacities.now c.args.text.now c.args.sheet.now _ _ room put.put in

@@ -1,5 +1,4 @@
 -- `mudzkvopi_run_table` meets its contract, since `engine::run_numbers` meets its own. A place goes through its 32 bits and is as it was.
-use borrow.Author.Rules.{rules}
 use mathlib.Core.Path.{◌≡◌, ap, ◌∙◌}
 use mathlib.Core.List.{List}
 use lib.IntN.{ℤ}
@@ -14,38 +13,21 @@ use Rattle.memory.specs.declared.answers.Position.{Position}
 use Rattle.memory.specs.declared.answers.Run.{Run}
 use Rattle.host.specs.Entries.{stands_at}
 use Rattle.host.proofs.WordRuns.{runs_on, table_is}
-use Rattle.host.proofs.mudzkvopi_run_table.Statement.{statement}
-use Rattle.host.proofs.mudzkvopi_run_table.Tie as tie
+use borrow.Author.Rules.{rules}
+use Rattle.host.proofs.mudzkvopi_run_table.Goals as goal
 
-run-numbers-requires : tie.Need-run-numbers-requires
-run-numbers-requires c κs = search rules
-
-word-ended-requires : tie.Need-word-ended-requires
-word-ended-requires c κs = search rules
-
-same_length : tie.Need-same-length
-same_length c = search rules
-
-same-length-2 : tie.Need-same-length-2
-same-length-2 c = search rules
-
-returns : tie.Need-returns
+pub returns : goal.returns
 returns c =
-    let at-run = c.before.before.before.before.before.before in
-    let args = at-run.before.before.before.before.before.before.before.before.before.before.args in
+    let args = c.args in
     let m : Memory = memory args.capacities.now args.store.now args.lengths.now in
     let at : Position = stands_at args.place.now args.steps.now in
     let from : to_z w32 (of_z w32 args.place.now) ≡ args.place.now = search rules in
     let table : List Entry = zipped args.kinds.now args.operands.now in
-    let ran : Run = at-run.run_numbers.result in
+    let ran : Run = c.run_numbers-ran.result in
     let back : to_z w32 (of_z w32 ran.position.place) ≡ ran.position.place = search rules in
-    let called : handed ran at-run.run_numbers.new.1.0 at-run.run_numbers.new.1.1.0
+    let called : handed ran c.run_numbers-ran.new.store c.run_numbers-ran.new.lengths
     ≡ table_called m at args.budget table =
-    at-run.run_numbers.ensures
+    c.run_numbers-ran.ensures
     ∙ ap (λ (z : ℤ). table_called m (stands_at z args.steps.now) args.budget table) from in
     runs_on m at (read_table_for (count m) table) args.budget ran _ _ _ _
     (called ∙ table_is m at args.budget table) c.word_ended.ensures back
-
-pub mudzkvopi-run-table-spec : {M : Type 1} → statement M
-mudzkvopi-run-table-spec =
-    tie.close (tie.spec run-numbers-requires word-ended-requires same_length same-length-2 returns)
