@@ -13,7 +13,7 @@ import re
 import sys
 
 WORD = re.compile(r"[^\s(){}.;,@\"«»`|\[\]]+")
-SIGNATURE = re.compile(r"^ *(?:(?:pub|abbrev|unfoldable|data|record) +)*([^\s(){}.;,@\"]+)(?: +[({][^{}()\n]*(?:\([^()\n]*\)[^{}()\n]*)*[)}])* :(?= |$)")
+SIGNATURE = re.compile(r"^ *(?:(?:pub|abbrev|unfoldable|data|record) +)*([^\s(){}.;,@\"]+(?: +[^\s(){}.;,@\"]+)*?)(?: +[({][^{}()\n]*(?:\([^()\n]*\)[^{}()\n]*)*[)}])* :(?= |$)")
 BOUND = [re.compile(r"λ ([^.=]*?)\."), re.compile(r"[({]([^(){}:\n]*?) : "), re.compile(r"\blet ([^\s:=]+) (?::|=)")]
 MADE = re.compile(r"^(?:(?:pub|abbrev) +)*(\S+) : (?:\{[^}]*\} → )?(?:tie|goal|statement)\b")
 LIBRARY = re.compile(r"^(?:ghost )?use (?!Rattle\.(?:%s)\.)([^\s{;]+?)\.?(?:\{([^}]*)\})?;?$")
@@ -44,8 +44,8 @@ def declared(text, path):
             made.add(m[1])
             continue
         m = SIGNATURE.match(line)
-        if m:
-            names.add(m[1])
+        if m and not (" " in m[1] and in_function(path)):
+            names.update(m[1].split())
         for how in BOUND:
             for words in how.findall(line):
                 names.update(WORD.findall(words))
@@ -86,7 +86,7 @@ def table(top):
             for line in text.split("\n"):
                 m = SIGNATURE.match(line)
                 if m and line.startswith(("abbrev", "unfoldable", "pub")) and m[1][0].islower():
-                    functions.add("_".join(PARTS.get(q, q) for q in m[1].split("-")))
+                    functions.update("_".join(PARTS.get(q, q) for q in n.split("-")) for n in m[1].split())
         for n in found:
             names[n].add(p)
     rows = {}

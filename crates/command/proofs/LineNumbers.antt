@@ -10,7 +10,7 @@ use lib.Dec.{eqb, ltb}
 use borrow.Author.Tests.{eqb-true, eqb-false, eq-eqb, ne_eqb, ltb-true, ltb-false}
 use lib.ListN.{length, take, drop, length-append, length-drop, length-replicate, drop_of_length-le}
 use lib.Seq.{take-append_seam, take-add, drop_at, length-take-le, drop-drop}
-use Rattle.theory.specs.Text.{Bytes, bytes, Found, following, same, prime, name, name_of, Notation, by_digits, by-primes, name_by}
+use Rattle.theory.specs.Text.{Bytes, bytes, Found, following, same, prime, name, name_of, Notation, by_digits, by_primes, name_by}
 use Rattle.theory.specs.Basics.{or_else}
 use Rattle.theory.specs.ProgramText.{loop, while, clear, increment, copy, Command, plain, opens, closes, around, assigns, command}
 use Rattle.theory.proofs.Numerals.{found, name-written}
@@ -116,7 +116,7 @@ large_in_digits {s} {at} {end} {i} h l m c = go c.notation c.size c.same
   where
     go : (v : Notation) → at + length (name_by v i) ≡ end → drop at (take end s) ≡ name_by v i → drop at (take end s) ≡ name_of i
     go by_digits e f = f
-    go by-primes e f = absurd (omega (arith, length-replicate i prime))
+    go by_primes e f = absurd (omega (arith, length-replicate i prime))
 
 -- The same bytes are read as the same number
 one_name : (v w : Notation) (i j : ℕ) → name_by v i ≡ name_by w j → i ≡ j

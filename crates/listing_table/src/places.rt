@@ -1,5 +1,5 @@
 // Where each line's instructions begin in the word of an accepted listing.
-ghost use Rattle.std.specs.Prelude.{◌≡◌, get_or};
+ghost use Rattle.std.specs.Prelude.{◌≡◌, replicate, get_or};
 ghost use Rattle.listing_check.specs.Lined.{lines_of};
 ghost use Rattle.listing_table.specs.Tables.{Passed, kind_size, Placed};
 
@@ -7,7 +7,7 @@ use listing_check::numbers_at;
 use listing_numbers::SCAN;
 
 // The place of line 1: F1 stands before it.
-const FIRST: u16 = 2;
+pub const FIRST: u16 = 2;
 
 // The numbers from 0 to that of the line after the last.
 pub const PLACES: usize = listing_check::LINES + 2;
@@ -19,19 +19,18 @@ fn size_of(kind: u16) -> u16
     if kind == SCAN { 4 } else { 1 }
 }
 
-// The place of each line, by its number, and of the line after the last. Number 0 is no line's, and has the place of line 1.
-pub fn places_of(list: &[u16], lines: usize) -> [u16; PLACES]
-    requires { Passed list.now lines }
-    ensures { Placed (lines_of list.now) lines result }
+// The place of each line, by its number, and of the line after the last. Number 0 is no line's, and has the place of line 1. The places
+// are lent: handed back, they would lie on the stack twice.
+pub fn put_places(list: &[u16], lines: usize, places: &mut [u16; PLACES])
+    requires { Passed list.now lines × (places.old ≡ replicate 258 2) }
+    ensures { Placed (lines_of list.now) lines places.new }
 {
-    let mut places = [FIRST; PLACES];
     let mut i: usize = 0;
     while i < lines {
         let n = numbers_at(list, i);
         i += 1;
         places[i + 1] = places[i] + size_of(n.kind);
     }
-    places
 }
 
 // The place of a line by its number; 0 where it has none.

@@ -8,7 +8,7 @@ use lib.ListN.{length}
 use Rattle.theory.specs.Limits
 use Rattle.theory.specs.Basics.{present, every, with_all}
 use Rattle.theory.specs.Text.{Bytes, LF, blank, name, name_of}
-use Rattle.theory.specs.Text.{Notation, by_digits, by-primes, name_by, split_lines, split_blanks, fields, blanked}
+use Rattle.theory.specs.Text.{Notation, by_digits, by_primes, name_by, split_lines, split_blanks, fields, blanked}
 use Rattle.theory.specs.ProgramText.{Command, spelling, text_of, command}
 use Rattle.theory.specs.RunSheet.{whole, names}
 use Rattle.theory.specs.TurnedDown.{Answer, answer, text_lines, program_fault_under, text_fault_under, read_text_under}
@@ -110,8 +110,8 @@ fields_by v i l = begins v l ∙ split_blanked written_name (λ n. name_without 
     begins : (v : Notation) (l : List (Notation × ℕ)) → fields (names_by ((v, i) ∷ l)) ≡ split_blanks (names_by ((v, i) ∷ l))
     begins by_digits [] = refl
     begins by_digits (n ∷ l) = refl
-    begins by-primes [] = refl
-    begins by-primes (n ∷ l) = refl
+    begins by_primes [] = refl
+    begins by_primes (n ∷ l) = refl
 
 -- A field that is read is a name
 abbrev Written : Bytes → ℕ → Type 0

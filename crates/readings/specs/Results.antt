@@ -4,7 +4,7 @@ use Rattle.std.proofs.Math.Option
 use Rattle.std.proofs.Math.Option.{Option, none, some}
 use Prim.Native.String.{String}
 use Rattle.theory.specs.Basics.{present}
-use Rattle.theory.specs.Text.{Bytes, bytes, name, by_digits, by-primes, name_by}
+use Rattle.theory.specs.Text.{Bytes, bytes, name, by_digits, by_primes, name_by}
 use Rattle.theory.specs.ProgramText.{clear, increment, copy, loop, while, plain, opens, closes, spelling_by, list_of, text_of}
 use Rattle.theory.specs.Word.{bytes_of}
 use Rattle.theory.specs.Translation.{word_text}
@@ -182,18 +182,18 @@ digit_texts =
 -- The spellings by the notation of each name
 unfoldable pub spelled_names : List Example
 spelled_names =
-    spelled (name_by by-primes 0) "X"
-    ∷ spelled (name_by by-primes 3) "X'''"
+    spelled (name_by by_primes 0) "X"
+    ∷ spelled (name_by by_primes 3) "X'''"
     ∷ spelled (name_by by_digits 3) "X3"
-    ∷ spelled (spelling_by by-primes by_digits (plain (clear 1))) "X' <- 0"
-    ∷ spelled (spelling_by by-primes by_digits (plain (increment 1))) "X' <- X1 + 1"
-    ∷ spelled (spelling_by by_digits by-primes (plain (increment 1))) "X1 <- X' + 1"
-    ∷ spelled (spelling_by by-primes by_digits (plain (copy 1 2))) "X' <- X2"
-    ∷ spelled (spelling_by by_digits by-primes (plain (copy 1 2))) "X1 <- X''"
-    ∷ spelled (spelling_by by-primes by_digits (opens loop 1)) "loop X'"
-    ∷ spelled (spelling_by by-primes by_digits (closes loop 1)) "endloop X'"
-    ∷ spelled (spelling_by by-primes by_digits (opens while 1)) "while X' != 0"
-    ∷ spelled (spelling_by by-primes by_digits (closes while 1)) "endwhile X' != 0"
+    ∷ spelled (spelling_by by_primes by_digits (plain (clear 1))) "X' <- 0"
+    ∷ spelled (spelling_by by_primes by_digits (plain (increment 1))) "X' <- X1 + 1"
+    ∷ spelled (spelling_by by_digits by_primes (plain (increment 1))) "X1 <- X' + 1"
+    ∷ spelled (spelling_by by_primes by_digits (plain (copy 1 2))) "X' <- X2"
+    ∷ spelled (spelling_by by_digits by_primes (plain (copy 1 2))) "X1 <- X''"
+    ∷ spelled (spelling_by by_primes by_digits (opens loop 1)) "loop X'"
+    ∷ spelled (spelling_by by_primes by_digits (closes loop 1)) "endloop X'"
+    ∷ spelled (spelling_by by_primes by_digits (opens while 1)) "while X' != 0"
+    ∷ spelled (spelling_by by_primes by_digits (closes while 1)) "endwhile X' != 0"
     ∷ []
 
 -- The end of a run of a source, its steps, line, first values and passes left

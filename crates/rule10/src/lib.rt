@@ -1,13 +1,27 @@
 // Rule 10 of document 01: each register's capacity, the lent store and its lengths.
 #![tactic(auto)]
 
-ghost use Rattle.std.specs.Prelude.{◌≡◌, length};
+ghost use Rattle.std.specs.Prelude.{◌≡◌, ◌≤◌, suc, length};
 ghost use Rattle.theory.specs.Basics.{all};
 ghost use Rattle.theory.specs.Limits.{most_capacity};
-ghost use Rattle.theory.specs.Machines.{is_limited, is_sized, is_memory};
+ghost use Rattle.theory.specs.Machines.{offset, is_limited, is_sized, is_memory};
 ghost use Rattle.rule10.specs.Lent.{memory, Sized, places_laid};
 
-use layout::{CAPACITY, REGISTERS, is_laid, offsets, wide};
+use layout::{CAPACITY, REGISTERS, capacity_at, is_laid, wide};
+
+// Where the last register's place ends. It is added up here, and so are the places below: a table of them would lie on the stack.
+fn end_of(capacities: &[u16]) -> usize
+    requires { length capacities.now ≤ 64 }
+    ensures { result ≡ offset capacities.now (suc (length capacities.now)) }
+{
+    let mut end: usize = 0;
+    let mut i: usize = 0;
+    while i < capacities.len() {
+        end += capacity_at(capacities, i);
+        i += 1;
+    }
+    end
+}
 
 // Whether every register's place is laid out with its length.
 fn all_laid(capacities: &[u16], store: &[u8], lengths: &[u16]) -> bool
@@ -15,15 +29,15 @@ fn all_laid(capacities: &[u16], store: &[u8], lengths: &[u16]) -> bool
     ensures { result ≡ places_laid (length capacities.now) capacities.now store.now
         lengths.now }
 {
-    let places = offsets(capacities);
+    let mut from: usize = 0;
     let mut i: usize = 0;
     while i < lengths.len() {
-        let from = places[i];
-        let to = places[i + 1];
+        let to = from + capacity_at(capacities, i);
         let n = wide(lengths[i]);
         if !is_laid(&store[from..to], n) {
             return false;
         }
+        from = to;
         i += 1;
     }
     true
@@ -61,8 +75,7 @@ pub fn is_sized(capacities: &[u16], store: &[u8], lengths: &[u16]) -> bool
     if !are_limited(capacities) {
         return false;
     }
-    let places = offsets(capacities);
-    if store.len() != places[registers] {
+    if store.len() != end_of(capacities) {
         return false;
     }
     lengths.len() == registers

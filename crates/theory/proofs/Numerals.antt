@@ -13,7 +13,7 @@ use lib.Dec.{eqb, leb, ltb}
 use borrow.Author.Tests.{leb-true, le-leb, ltb-true, ltb-false, lt-ltb, le-ltb, eqb-true, eqb-false, ne_eqb, not-true}
 use Rattle.theory.specs.Basics.{all}
 use Rattle.theory.specs.Text.{Bytes, Found, is_digit, one_more, digits, value_after, proper, numeral, prime, primes, digit_first}
-use Rattle.theory.specs.Text.{index, name, decimal_before, decimal, name_of, Notation, by_digits, by-primes, name_by}
+use Rattle.theory.specs.Text.{index, name, decimal_before, decimal, name_of, Notation, by_digits, by_primes, name_by}
 use Rattle.theory.proofs.Faults.{and_first, and_second, or_first, or_second}
 
 -- Digits
@@ -301,7 +301,7 @@ primes-append (suc n) r h = ap (λ (f : Found ℕ). found (suc f.value) f.rest) 
 pub name-name_by : (v : Notation) (i : ℕ) (r : Bytes) → NoIndex r → name (name_by v i ++ r) ≡ some (found i r)
 unfolding name name_of index
 name-name_by by_digits i r h = rw (decimal-first i r) (numeral-decimal i r (no_index_digit r h))
-name-name_by by-primes i r h = rw (primes-first i r h, primes-append i r h)
+name-name_by by_primes i r h = rw (primes-first i r h, primes-append i r h)
 
 pub primes-whole : (t : Bytes) → replicate (primes t).value prime ++ (primes t).rest ≡ t
 unfolding primes
@@ -323,7 +323,7 @@ name-written (b ∷ t) f h = go (eqb b 88) (digit_first t) refl refl
     go true true e d = (by_digits, ap₂ {C = Bytes} ◌∷◌ (sym (eqb-true b 88 e)) (numeral-spelled t f (rw (e, d) at h)).whole)
     go true false e d =
         let g : primes t ≡ f = some-injective _ f (rw (e, d) at h) in
-        (by-primes, ap₂ {C = Bytes} ◌∷◌ (sym (eqb-true b 88 e)) (rw (← g) (primes-whole t)))
+        (by_primes, ap₂ {C = Bytes} ◌∷◌ (sym (eqb-true b 88 e)) (rw (← g) (primes-whole t)))
     go false y e d = absurd (none-ne-some f (rw e at h))
 
 -- Two digits at most below 100

@@ -10,7 +10,7 @@ use lib.Dec.{eqb}
 use borrow.Author.Tests.{eqb-true, eq-eqb, ne_eqb}
 use Rattle.theory.specs.Basics.{given, or_else, and_then, all}
 use Rattle.theory.specs.Text.{Bytes, bytes, following, same, is_digit, digit_first, name, in_digits, decimal, name_of}
-use Rattle.theory.specs.Text.{Notation, by_digits, by-primes, name_by}
+use Rattle.theory.specs.Text.{Notation, by_digits, by_primes, name_by}
 use Rattle.theory.specs.ProgramText.{clear, increment, copy, loop, while, Command, plain, opens, closes}
 use Rattle.theory.specs.ProgramText.{spelling_by, spelling, around, assigns, command}
 use Rattle.theory.proofs.Faults.{and_then_some, given_some, and_first, and_second}
@@ -105,11 +105,11 @@ unfolding command around assigns following same name name_of
 command_of-spelling v w (plain (clear i)) = rw (name-name_by v i (bytes " <- 0") refl)
 command_of-spelling v by_digits (plain (increment i)) =
     rw (name-name_by v i (arrow ++ (name_of i ++ bytes " + 1")) refl, name-name_by by_digits i (bytes " + 1") refl, eq-eqb i i refl)
-command_of-spelling v by-primes (plain (increment i)) =
-    let second : Bytes = name_by by-primes i ++ bytes " + 1" in
-    rw (name-name_by v i (arrow ++ second) refl, name-name_by by-primes i (bytes " + 1") refl, eq-eqb i i refl)
+command_of-spelling v by_primes (plain (increment i)) =
+    let second : Bytes = name_by by_primes i ++ bytes " + 1" in
+    rw (name-name_by v i (arrow ++ second) refl, name-name_by by_primes i (bytes " + 1") refl, eq-eqb i i refl)
 command_of-spelling v by_digits (plain (copy i j)) = rw (name-name_by v i (arrow ++ name_of j) refl, name_alone by_digits j)
-command_of-spelling v by-primes (plain (copy i j)) = rw (name-name_by v i (arrow ++ name_by by-primes j) refl, name_alone by-primes j)
+command_of-spelling v by_primes (plain (copy i j)) = rw (name-name_by v i (arrow ++ name_by by_primes j) refl, name_alone by_primes j)
 command_of-spelling v w (opens loop i) = rw (name_alone v i)
 command_of-spelling v w (closes loop i) = rw (name_alone v i)
 command_of-spelling v w (opens while i) = rw (name-name_by v i (bytes " != 0") refl)
@@ -197,15 +197,15 @@ digits-in_digits (b ∷ d) h =
 
 abbrev is_by_digits : Notation → Bool
 is_by_digits by_digits = true
-is_by_digits by-primes = false
+is_by_digits by_primes = false
 
 name-in_digits : (v : Notation) (i : ℕ) → in_digits (name_by v i) ≡ is_by_digits v
 unfolding in_digits name_of
 name-in_digits by_digits i =
     let first : digit_first (decimal i) ≡ true = rw (append-nil (decimal i)) at (decimal-first i []) in
     rw first (digits-in_digits (decimal i) (decimal-digits i))
-name-in_digits by-primes zero = refl
-name-in_digits by-primes (suc i) = refl
+name-in_digits by_primes zero = refl
+name-in_digits by_primes (suc i) = refl
 
 named-in_digits : (v : Notation) (i : ℕ) (r : Bytes) → digit_first r ≡ false
     → in_digits (name_by v i ++ r) ≡ (is_by_digits v && in_digits r)
@@ -226,7 +226,7 @@ spelling-in_digits (closes while i) = named-in_digits by_digits i (bytes " != 0"
 -- and no other spelling is
 written_alone : (v : Notation) (i : ℕ) → in_digits (name_by v i) ≡ true → name_by v i ≡ name_of i
 written_alone by_digits i h = refl
-written_alone by-primes i h = absurd (false≢true (sym (name-in_digits by-primes i) ∙ h))
+written_alone by_primes i h = absurd (false≢true (sym (name-in_digits by_primes i) ∙ h))
 
 written-before : (v : Notation) (i : ℕ) (r : Bytes) → digit_first r ≡ false → in_digits (name_by v i ++ r) ≡ true
     → (name_by v i ≡ name_of i) × (in_digits r ≡ true)

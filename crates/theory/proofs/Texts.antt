@@ -10,7 +10,7 @@ use lib.Dec.{eqb, eqb-suc-zero}
 use borrow.Author.Tests.{eqb-true, ne_eqb, le-leb, not-true}
 use Rattle.theory.specs.Limits
 use Rattle.theory.specs.Basics.{or_else, present, all, EachOf}
-use Rattle.theory.specs.Text.{Bytes, bytes, LF, is_digit, prime, in_digits, decimal, name_of, Notation, by_digits, by-primes, name_by}
+use Rattle.theory.specs.Text.{Bytes, bytes, LF, is_digit, prime, in_digits, decimal, name_of, Notation, by_digits, by_primes, name_by}
 use Rattle.theory.specs.Text.{onto_first, split_lines, ends_in_LF}
 use Rattle.theory.specs.ProgramText.{clear, increment, copy, loop, while, Command, plain, opens, closes}
 use Rattle.theory.specs.ProgramText.{spelling_by, spelling, text_of, command}
@@ -57,7 +57,7 @@ primes_without x l (suc n) = rw (ne_eqb prime x (λ e. omega arith)) (primes_wit
 pub name_without : (x : ℕ) → x < prime → (v : Notation) (i : ℕ) → Without x (name_by v i)
 unfolding name_of
 name_without x l by_digits i = rw (ne_eqb 88 x (λ e. omega arith)) (digits_without x l (decimal i) (decimal-digits i))
-name_without x l by-primes i = rw (ne_eqb 88 x (λ e. omega arith)) (primes_without x l i)
+name_without x l by_primes i = rw (ne_eqb 88 x (λ e. omega arith)) (primes_without x l i)
 
 pub name_no_LF : (v : Notation) (i : ℕ) → NoLF (name_by v i)
 name_no_LF = name_without LF (omega arith)

@@ -107,11 +107,11 @@ name_of i = 88 ∷ decimal i
 
 -- The two ways to write an index, and a name by either
 pub data Notation : Type 0 where
-  by_digits by-primes : Notation
+  by_digits by_primes : Notation
 
 abbrev pub name_by : Notation → ℕ → Bytes
 name_by by_digits i = name_of i
-name_by by-primes i = 88 ∷ replicate i prime
+name_by by_primes i = 88 ∷ replicate i prime
 
 -- "Each line … ends in LF": the lines of a text. Bytes after the last LF are a last line too, one that has no LF (rule 2)
 abbrev pub onto_first : ℕ → List Bytes → List Bytes

@@ -1,9 +1,9 @@
-use mathlib.Core.Path.{◌≡◌, sym, ◌∙◌}
-use mathlib.Core.Bool.{true}
+use mathlib.Core.Path.{◌≡◌, refl, sym, ap, ◌∙◌}
 use Prim.Native.Nat.{◌+◌, ◌≤◌, ◌<◌}
+use native.Mathlib.Numerals.{add-one}
 use native.Mathlib.Omega.{arith}
 use lib.ListN.{length, get_or}
-use Rattle.layout.proofs.OffsetTable.{table_at, table-next, table_inside}
+use Rattle.theory.proofs.Offsets.{offset-next, place_inside, offset_bound}
 use Rattle.rule10.proofs.Places.{is_place, places_none, places_fail, places-more, place-laid}
 use borrow.Author.Rules.{rules}
 use Rattle.rule10.proofs.all_laid.Goals as goal
@@ -14,24 +14,11 @@ below : (c : In-loop-i)
     → c.loop-i.i < length c.args.capacities.now
 below c = omega (arith, c.requires.paired, c.loop-i-test.true)
 
-few : (c : In-loop-i) → c.loop-i.i < 64
-few c = omega (arith, below c, c.requires.registers)
-
--- its place lies in the store, and has its capacity
+-- its place lies in the store
 ends : (c : In-loop-i)
-    → let places = c.offsets-places.result in
-    get_or places (c.loop-i.i + 1) 0 ≤ length c.args.store.now
-ends c =
-    let l = c.loop-i in
-    omega (arith, table_inside c.args.capacities.now _ l.invariant.1 l.i (few c), c.requires.room)
-
-next : (c : In-loop-i)
-    → let places = c.offsets-places.result in
-    let i = c.loop-i.i in
-    get_or places (i + 1) 0 ≡ get_or places i 0 + get_or c.args.capacities.now i 0
-next c =
-    let l = c.loop-i in
-    table-next c.args.capacities.now _ l.invariant.1 l.i (few c)
+    → let a = c.args in
+    c.loop-i.from + get_or a.capacities.now c.loop-i.i 0 ≤ length a.store.now
+ends c = omega (arith, c.loop-i.invariant.1, place_inside c.args.capacities.now c.loop-i.i, c.requires.room)
 
 -- what the test of the part says of register i
 tested : (c : After-is_laid)
@@ -41,24 +28,24 @@ tested : (c : After-is_laid)
 tested c =
     let a = c.args in
     let l = c.loop-i in
-    let from = table_at a.capacities.now _ l.invariant.1 l.i (omega arith) in
-    rw (← from)
-    (place-laid _ _ (get_or a.capacities.now l.i 0) (get_or a.lengths.now l.i 0) a.store.now (table-next c.args.capacities.now _ c.loop-i.invariant.1 c.loop-i.i (omega arith)) (omega (arith, table_inside c.args.capacities.now _ c.loop-i.invariant.1 c.loop-i.i (omega arith), c.requires.room))
+    let capacity : c.capacity_at.result ≡ get_or a.capacities.now l.i 0 = c.capacity_at.ensures.0 in
+    rw (← l.invariant.1)
+    (place-laid _ _ (get_or a.capacities.now l.i 0) (get_or a.lengths.now l.i 0) a.store.now (ap (λ n. l.from + n) capacity)
+    (omega (arith, l.invariant.1, capacity, place_inside a.capacities.now l.i, c.requires.room))
     (rw (← c.wide-n.ensures) c.is_laid.ensures))
 
 pub loop-i-init : goal.loop-i-init
 loop-i-init c =
     let a = c.args in
-    (search rules, c.offsets-places.ensures, places_none 0 a.capacities.now a.store.now a.lengths.now)
+    (search rules, refl, places_none 0 a.capacities.now a.store.now a.lengths.now)
 
-pub slice_bounds-is_laid-count : goal.slice_bounds-is_laid-count
-slice_bounds-is_laid-count c = omega (arith, next (goal.at.slice_bounds-is_laid-count c).In-loop-i)
-
-pub slice_bounds-is_laid-start : goal.slice_bounds-is_laid-start
-slice_bounds-is_laid-start c = omega (arith, next (goal.at.slice_bounds-is_laid-start c).In-loop-i)
+pub overflow_add-to : goal.overflow_add-to
+overflow_add-to c =
+    let l = c.loop-i in
+    omega (arith, l.invariant.1, offset_bound c.args.capacities.now 1024 c.requires.symbols l.i, below (goal.at.overflow_add-to c).In-loop-i, c.requires.registers, c.capacity_at.ensures.1)
 
 pub slice_bounds-is_laid-end : goal.slice_bounds-is_laid-end
-slice_bounds-is_laid-end c = ends (goal.at.slice_bounds-is_laid-end c).In-loop-i
+slice_bounds-is_laid-end c = omega (arith, ends (goal.at.slice_bounds-is_laid-end c).In-loop-i, c.capacity_at.ensures.0)
 
 pub returns-then-not-is_laid : goal.returns-then-not-is_laid
 returns-then-not-is_laid c =
@@ -71,7 +58,7 @@ loop-i-preserved c =
     let l = c.loop-i in
     let a = c.args in (
       search rules,
-      l.invariant.1,
+      rw (add-one l.i) (omega (arith, l.invariant.1, c.capacity_at.ensures.0, offset-next a.capacities.now l.i)),
       places-more l.i a.capacities.now a.store.now a.lengths.now
           (sym (tested (goal.at.loop-i-preserved c).After-is_laid) ∙ c.if-not-is_laid.false) l.invariant.2,
     )

@@ -7,10 +7,10 @@ use Rattle.listing_table.proofs.filling.fill_passed.Goals as goal
 
 pub overflow_sub-result : goal.overflow_sub-result
 overflow_sub-result c =
-    omega (arith, count_is c.args.list.now c.args.lines c.requires c.places_of-places.result c.places_of-places.ensures)
+    omega (arith, count_is c.args.list.now c.args.lines c.requires _ c.put_places.ensures)
 
 pub returns : goal.returns
 returns c = (
-  omega (arith, count_is c.args.list.now c.args.lines c.requires c.places_of-places.result c.places_of-places.ensures),
+  omega (arith, count_is c.args.list.now c.args.lines c.requires _ c.put_places.ensures),
   word_tabled (lines_of c.args.list.now) c.put.ensures c.put_lines.ensures,
 )
