@@ -1,6 +1,6 @@
 -- The numbers of a table of records after so many turns, in arrays that begin as 0s.
 use mathlib.Core.Path.{◌≡◌, sym, ap, ◌∙◌}
-use mathlib.Core.List.{List}
+use mathlib.Core.List.{List, map}
 use Prim.Native.Nat.{ℕ, ◌+◌, ◌≤◌, ◌<◌}
 use native.Mathlib.Omega.{arith}
 use lib.ListN.{length, get_or, set, replicate, length-map, length-replicate, get_or-map}
@@ -46,3 +46,7 @@ pub numbers_end : (t : List Instruction) (j n : ℕ) → j ≡ n
     → ◌≡◌ {A = Numbers} (record { kinds = copied_at kind_in t j; operands = copied_at operand_in t j }) (numbers_of (entries_of t) n)
 unfolding copied_at numbers_of
 numbers_end t j n e = ap (λ (k : ℕ). numbers_of (entries_of t) k) e
+
+-- An array in a struct is spelled by its elements, each as it is
+abbrev pub same : List ℕ → List ℕ
+same = map (λ v. v)

@@ -32,6 +32,9 @@ module _ {l ts es cs : List ℕ} {line : ℕ} {vs ps : List ℕ} (r : Ready l ts
   pub first_in : (first-at l m < length vs) × (first-at l m < 32)
   first_in = omega (arith, first_low l r.filled.holds m inside, r.values_are)
 
+  pub capacity_in : first-at l m < length cs
+  capacity_in = omega (arith, first_low l r.filled.holds m inside, r.capacities_are)
+
   pub second_in : (second_at l m < length vs) × (second_at l m < 32)
   second_in = omega (arith, second_low l r.filled.holds m inside, r.values_are)
 

@@ -3,6 +3,7 @@ use mathlib.Core.Path.{◌≡◌, refl, sym, ap, ◌∙◌, fun_ext}
 use mathlib.Core.Bool.{Bool, true, false, cond, ◌&&◌}
 use mathlib.Core.List.{List}
 use Prim.Native.Nat.{ℕ, suc, pred, ◌+◌, ◌-◌, ◌≤◌, ◌<◌}
+use native.Mathlib.Numerals.{add-one}
 use native.Mathlib.Omega.{arith}
 use borrow.Author.Tests.{ltb-true}
 use lib.ListN.{length, get_or}
@@ -24,6 +25,10 @@ use Rattle.source.specs.Lines.{BoundsOf, Bounded, all_left}
 use Rattle.source.proofs.Program.{depth_last}
 use Rattle.source.proofs.Stepping.{kind_at, of_kind}
 use Rattle.source.proofs.Entries.{closed_depth, off_endloop}
+
+-- A test of every number below n, from the first on
+pub all-one_more : (f : ℕ → Bool) (i : ℕ) → all_below i f ≡ true → f i ≡ true → all_below (i + 1) f ≡ true
+all-one_more f i h e = rw (add-one i, h) e
 
 -- The loops around a line, by its entry
 module _ (l es : List ℕ) (lines line : ℕ) (d : Deep l es lines line) where

@@ -19,6 +19,9 @@ laid c a b v p = c ++ (a ∷ b ∷ (v ++ p))
 pub laid_same : {c c' v v' p p' : List ℕ} (a b : ℕ) → c ≡ c' → v ≡ v' → p ≡ p' → laid c a b v p ≡ laid c' a b v' p'
 laid_same a b e f g = rw (e, f, g)
 
+laid-length : (c : List ℕ) (a b : ℕ) (v p : List ℕ) → length c ≡ 32 → length v ≡ 32 → length p ≡ 16 → length (laid c a b v p) ≡ 82
+laid-length c a b v p h g e = simp length-append (omega arith)
+
 pub parts : (n : List ℕ) → length n ≡ 82 → laid (take 32 n) (get_or n 32 0) (get_or n 33 0) (take 32 (drop 34 n)) (take 16 (drop 66 n)) ≡ n
 parts n e =
     let few : length (drop 66 n) ≤ 16 = simp length-drop (omega arith) in
@@ -71,15 +74,24 @@ module _ (n : List ℕ) (size : length n ≡ 82) where
         let long : length (take 32 n) ≡ 32 = simp length-take (omega arith) in
         ap (λ m. put_mid 0 32 m c) (sym (parts n size)) ∙ put_part [] (take 32 n) (x ∷ y ∷ (w ++ q)) c 0 32 refl long
 
+    pub first-size : length (put_mid 0 32 n c) ≡ 82
+    first-size = rw first (laid-length c x y w q capacities w_length q_length)
+
     module _ (v : List ℕ) (values : length v ≡ 32) where
       second : put_mid 34 32 (put_mid 0 32 n c) v ≡ laid c x y v q
       second = ap (λ m. put_mid 34 32 m v) first ∙ put_behind c (x ∷ y ∷ []) w q v 34 32 (omega arith) w_length
+
+      pub second_size : length (put_mid 34 32 (put_mid 0 32 n c) v) ≡ 82
+      second_size = rw second (laid-length c x y v q capacities values q_length)
 
       module _ (p : List ℕ) (passes : length p ≡ 16) where
         third : put_mid 66 16 (put_mid 34 32 (put_mid 0 32 n c) v) p ≡ laid c x y v p
         third =
             let last : _ = put_behind c (x ∷ y ∷ v) q [] p 66 16 (omega arith) q_length in
             ap (λ m. put_mid 66 16 m p) second ∙ (rw (append-nil q, append-nil p) at last)
+
+        pub third_size : length (put_mid 66 16 (put_mid 34 32 (put_mid 0 32 n c) v) p) ≡ 82
+        third_size = rw third (laid-length c x y v p capacities values passes)
 
         -- and then line and steps
         pub all-written : (a b : ℕ) → set (set (put_mid 66 16 (put_mid 34 32 (put_mid 0 32 n c) v) p) 32 a) 33 b ≡ laid c a b v p
