@@ -10,6 +10,7 @@ ghost use Rattle.counts.specs.Counts.{CountsTo, counted_outcome, RanAs};
 
 use crate::stretches::run_lengths;
 use countable::is_countable;
+pub use countable::no_hash;
 use memory::{Position, Run};
 use underway::{BIAS, entry, ran, strayed};
 

@@ -6,7 +6,7 @@ ghost use Rattle.listing.specs.Listing.{transfer as transfer-of, word, code};
 ghost use Rattle.listing_check.specs.Lined.{lines_of};
 ghost use Rattle.listing_table.specs.Tables.{Passed, most_entries, Placed, line_entries, Tabled};
 
-use crate::places::{FIRST, PLACES, place_at, put_places};
+use crate::places::{PLACES, place_at, put_places};
 use listing_check::numbers_at;
 use listing_numbers::{Numbers, SCAN};
 use word::Instruction;
@@ -112,7 +112,7 @@ pub fn fill_passed(list: &[u16], lines: usize, kinds: &mut [u8], operands: &mut 
         × Tabled (table_of (word (lines_of list.now))) 0 kinds.old operands.old
         kinds.new operands.new }
 {
-    let mut places = [FIRST; PLACES];
+    let mut places = [0; PLACES];
     put_places(list, lines, &mut places);
     let start = Instruction {
         kind: Instruction::FORWARD,

@@ -1,5 +1,5 @@
 // Where each line's instructions begin in the word of an accepted listing.
-ghost use Rattle.std.specs.Prelude.{◌≡◌, replicate, get_or};
+ghost use Rattle.std.specs.Prelude.{◌≡◌, get_or};
 ghost use Rattle.listing_check.specs.Lined.{lines_of};
 ghost use Rattle.listing_table.specs.Tables.{Passed, kind_size, Placed};
 
@@ -7,7 +7,7 @@ use listing_check::numbers_at;
 use listing_numbers::SCAN;
 
 // The place of line 1: F1 stands before it.
-pub const FIRST: u16 = 2;
+const FIRST: u16 = 2;
 
 // The numbers from 0 to that of the line after the last.
 pub const PLACES: usize = listing_check::LINES + 2;
@@ -22,9 +22,10 @@ fn size_of(kind: u16) -> u16
 // The place of each line, by its number, and of the line after the last. Number 0 is no line's, and has the place of line 1. The places
 // are lent: handed back, they would lie on the stack twice.
 pub fn put_places(list: &[u16], lines: usize, places: &mut [u16; PLACES])
-    requires { Passed list.now lines × (places.old ≡ replicate 258 2) }
+    requires { Passed list.now lines }
     ensures { Placed (lines_of list.now) lines places.new }
 {
+    *places = [FIRST; PLACES];
     let mut i: usize = 0;
     while i < lines {
         let n = numbers_at(list, i);

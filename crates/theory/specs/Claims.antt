@@ -65,7 +65,7 @@ pub record Demand3 (p : List Command) (w : List Instruction) (v : ℕ → ℕ) :
   -- the word never strays
   pub stays : (m : ℕ) (t : W.State) → WordRun w (fresh_word (variables p) v) m t → Ends (W.machine unlimited w) Strayed t → ⊥
 
--- "For every accepted program, and whatever values its variables start at"; and of well_nested programs of any length and any index
+-- "For every accepted program, and whatever values its variables start at"; and of well-nested programs of any length and any index
 abbrev pub DemandOfPrograms : Type 0
 DemandOfPrograms = (p : List Command) → Accepted p → (v : ℕ → ℕ) → Demand3 p (word_of p) v
 

@@ -160,6 +160,6 @@ blocks (plain c ∷ p) = let r = blocks p in record { first = single c r.first; 
 blocks (opens k i ∷ p) = let r = blocks p in opened_by k i r.first r.later
 blocks (closes k i ∷ p) = let r = blocks p in record { first = empty; later = r.first ∷ r.later }
 
--- The block of a program; of one that is well_nested `lines` gives the program again
+-- The block of a program; of one that is well-nested `lines` gives the program again
 unfoldable pub block_of : List Command → Block
 block_of p = (blocks p).first

@@ -1,4 +1,4 @@
--- A well_nested program does the same with more lines after it.
+-- A well-nested program does the same with more lines after it.
 use mathlib.Core.Path.{◌≡◌, refl, sym, ap, ◌∙◌, subst}
 use mathlib.Core.Option.{Option, none, some, map, none-ne-some, some-injective}
 use mathlib.Core.List.{List, [], ◌∷◌, ◌++◌}

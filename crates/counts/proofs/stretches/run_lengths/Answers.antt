@@ -1,20 +1,20 @@
 -- The goals of `run_lengths`: a stretch leads on, or its end is that of the run.
 use mathlib.Core.Path.{sym, ◌∙◌}
-use Rattle.counts.proofs.Counting.{counting_over, counting_full, counting_goes}
+use Rattle.counts.proofs.Counting.{counting_over, counting_reached_full, counting_reached}
 use Rattle.counts.proofs.stretches.run_lengths.Goals as goal
 
 pub loop-left-preserved : goal.loop-left-preserved
 loop-left-preserved c =
     let a = c.args in
     let w = c.allowance-allowed in
-    counting_goes a.capacities.now a.lengths.now a.kinds.now a.operands.now a.from a.steps a.budget w.result
+    counting_reached a.capacities.now a.lengths.now a.kinds.now a.operands.now a.from a.steps a.budget w.result
     c.loop-left.invariant w.ensures _ _ c.in-To.ensures
 
 pub returns-in-Full : goal.returns-in-Full
 returns-in-Full c =
     let a = c.args in
     let w = c.allowance-allowed in
-    counting_full a.capacities.now a.lengths.now a.kinds.now a.operands.now a.from a.steps a.budget w.result
+    counting_reached_full a.capacities.now a.lengths.now a.kinds.now a.operands.now a.from a.steps a.budget w.result
     c.loop-left.invariant w.ensures _ _ c.in-Full.ensures
 
 pub returns : goal.returns
