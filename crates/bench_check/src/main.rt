@@ -1,15 +1,14 @@
 // The bench examples of document 01 that are not marked P, read by the library: each text's answer, `passes` or the number and the place.
 #![tactic(auto)]
 
-use program::Checked;
 use std::io;
 use theory::Setting;
 
 fn answer(rt: &impl Print, text: &[u8]) -> io::Result<()> {
     let mut list = [0u8; 1536];
     match program::read(Setting::Any, text, &mut list) {
-        Checked::Accepted(_) => println!(rt; "passes"),
-        Checked::Refused(r) => {
+        Ok(_) => println!(rt; "passes"),
+        Err(r) => {
             let number = r.number;
             let place = r.place;
             println!(rt; "{number} {place}")
@@ -29,10 +28,8 @@ fn answer_first(rt: &impl Print, text: &[u8], end: usize) -> io::Result<()> {
 fn many_lines() -> [u8; 4104] {
     let line = b"X0 <- 0\n";
     let mut text = [0u8; 4104];
-    let mut i: usize = 0;
-    while i < 4104 {
-        text[i] = line[i % 8];
-        i += 1;
+    for (i, byte) in text.iter_mut().enumerate() {
+        *byte = line[i % 8];
     }
     text
 }

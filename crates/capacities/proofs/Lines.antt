@@ -1,5 +1,5 @@
 -- A line's numbers by its kind, and a register's capacity in the list.
-use mathlib.Core.Path.{◌≡◌, refl, sym}
+use mathlib.Core.Path.{◌≡◌}
 use mathlib.Core.Bool.{Bool, true, false, cond}
 use mathlib.Core.List.{List}
 use Prim.Native.Nat.{ℕ, suc, ◌+◌, ◌-◌, ◌≤◌, ◌<◌}
@@ -9,7 +9,7 @@ use borrow.Author.Tests.{le-leb, lt-leb, eq-eqb, ne_eqb}
 use lib.Dec.{eqb, leb}
 use lib.ListN.{get_or}
 use Rattle.theory.specs.Runs.{register}
-use Rattle.theory.specs.Translation.{scratch, counter}
+use Rattle.theory.specs.Translation.{counter}
 use Rattle.theory.specs.Machines.{capacity_of}
 use Rattle.capacities.specs.Room.{roomy, line_passes, next_depth}
 

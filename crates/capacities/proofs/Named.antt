@@ -1,17 +1,16 @@
 -- The registers above the variables that a program's word names, line by line: the test of the word is that of the program's list.
-use mathlib.Core.Path.{◌≡◌, refl, sym, ap, ◌∙◌}
+use mathlib.Core.Path.{◌≡◌, refl, sym, ◌∙◌}
 use mathlib.Core.Bool.{Bool, true, false, not, cond, ◌&&◌, ◌||◌, and_assoc}
 use mathlib.Core.List.{List, [], ◌∷◌, ◌++◌, append_assoc, append-nil}
-use Prim.Native.Nat.{ℕ, suc, ◌+◌, ◌-◌, ◌≤◌, ◌<◌, max}
+use Prim.Native.Nat.{ℕ, suc, ◌+◌, ◌-◌, ◌≤◌, ◌<◌}
 use native.Mathlib.Omega.{arith}
 use borrow.Author.Tests.{lt-ltb, le-ltb}
 use lib.Dec.{eqb, ltb, leb}
 use lib.ListN.{length}
 use Rattle.theory.specs.Basics.{all}
-use Rattle.theory.specs.ProgramText.{Plain, clear, increment, copy, Kind, loop, while, Command, plain, opens, closes, variables, list_of}
+use Rattle.theory.specs.ProgramText.{clear, increment, copy, loop, while, Command, closes, variables, list_of}
 use Rattle.theory.specs.ProgramText.{Block, empty, single, pair, lines, block_of}
 use Rattle.theory.specs.Runs.{register}
-use Rattle.theory.specs.Source.{deeper}
 use Rattle.theory.specs.Word.{Instruction, kind, operand, backward}
 use Rattle.theory.specs.Translation.{scratch, counter, touching, copying, plain_code, code, word, word_of}
 use Rattle.theory.specs.TurnedDown.{unless, names_register, largest, rule_21}

@@ -3,7 +3,7 @@
 // and at a loop, and the counter of each loop.
 #![tactic(auto)]
 
-ghost use Rattle.std.specs.Prelude.{◌≡◌, ◌≤◌, max, length};
+ghost use Rattle.std.specs.Prelude.{◌≡◌, ◌≤◌, length};
 ghost use Rattle.theory.specs.Machines.{capacity_of};
 ghost use Rattle.theory.specs.TurnedDown.{read_list, largest};
 ghost use Rattle.list.specs.Answers.{checked};
@@ -11,28 +11,20 @@ ghost use Rattle.capacities.specs.Room.{roomy, line_passes, next_depth, list_pas
 
 use command::{COPY, ENDLOOP, LOOP};
 use layout::{REGISTERS, capacity_at};
-use list::{Checked, check_list};
+use list::{Program, check_list};
 use rule10::are_limited;
-use theory::{Refusal, Setting};
+use theory::{Refusal, Setting, refused};
 
 // How many variables a program may have.
 const VARIABLES: usize = 32;
-
-fn larger(a: usize, b: usize) -> usize
-    ensures { result ≡ max a b }
-{
-    if a < b { b } else { a }
-}
 
 // The largest capacity of a variable.
 fn largest(capacities: &[u16], variables: usize) -> usize
     ensures { result ≡ largest (capacity_of capacities.now) variables }
 {
     let mut most: usize = 0;
-    let mut i: usize = 0;
-    while i < variables {
-        most = larger(most, capacity_at(capacities, i));
-        i += 1;
+    for i in 0..variables {
+        most = most.max(capacity_at(capacities, i));
     }
     most
 }
@@ -92,8 +84,7 @@ fn passes(list: &[u8], variables: usize, capacities: &[u16]) -> bool
 {
     let most = largest(capacities, variables);
     let mut deep: usize = 0;
-    let mut n: usize = 0;
-    while 3 * n + 2 < list.len() {
+    for n in 0..list.len() / 3 {
         let kind = list[3 * n];
         let index = list[3 * n + 1];
         let source = list[3 * n + 2];
@@ -101,7 +92,6 @@ fn passes(list: &[u8], variables: usize, capacities: &[u16]) -> bool
             return false;
         }
         deep = next_depth(deep, kind);
-        n += 1;
     }
     true
 }
@@ -116,29 +106,18 @@ fn are_a_set(capacities: &[u16]) -> bool
     are_limited(capacities)
 }
 
-// A program that is turned down.
-fn refused(number: u32) -> Checked
-    ensures { result ≡ Checked.Refused (record { number = number; place = 0 }) }
-{
-    Checked::Refused(Refusal { number, place: 0 })
-}
-
 // A program handed in as a list, for registers of these capacities: rules 3 to 8, 10, 21.
-pub fn check(list: &[u8], capacities: &[u16]) -> Checked
+pub fn check(list: &[u8], capacities: &[u16]) -> Result<Program, Refusal>
     ensures { result ≡ checked (with_room capacities.now (read_list list.now)) }
 {
-    match check_list(Setting::Any, list) {
-        Checked::Refused(r) => Checked::Refused(r),
-        Checked::Accepted(p) => {
-            if !are_a_set(capacities) {
-                return refused(10);
-            }
-            if passes(list, p.variables, capacities) {
-                Checked::Accepted(p)
-            } else {
-                refused(21)
-            }
-        }
+    let program = check_list(Setting::Any, list)?;
+    if !are_a_set(capacities) {
+        return refused(10, 0);
+    }
+    if passes(list, program.variables, capacities) {
+        Ok(program)
+    } else {
+        refused(21, 0)
     }
 }
 
@@ -147,10 +126,8 @@ pub fn of_variables(capacities: &[u16]) -> [u32; VARIABLES]
     ensures { result ≡ of_variables capacities.now }
 {
     let mut found = [0u32; VARIABLES];
-    let mut i: usize = 0;
-    while i < VARIABLES {
-        found[i] = capacity_at(capacities, i) as u32;
-        i += 1;
+    for (i, capacity) in found.iter_mut().enumerate() {
+        *capacity = capacity_at(capacities, i) as u32;
     }
     found
 }

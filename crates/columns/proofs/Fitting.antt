@@ -5,24 +5,25 @@ use mathlib.Core.List.{List}
 use Prim.Native.Nat.{ℕ, ◌≤◌, ◌<◌}
 use lib.ListN.{length}
 use borrow.Author.Tests.{le-leb, lt-leb}
-use Rattle.columns.specs.declared.Columns.{Columns}
-use Rattle.columns.specs.Columns.{padded, fit_together, no_columns, columns_as}
+use Rattle.std.specs.Prelude.{None, Some}
+use Rattle.std.specs.Option.{is_some}
+use Rattle.columns.specs.Columns.{padded, fit_together, columns_as}
 use Rattle.columns.proofs.Padded.{padded-take}
 
 module _ (ns : List ℕ) where
-  pub fit_many : (numbers : List ℕ) → 32 < length ns → (columns_as (length ns) numbers).fit ≡ false
+  pub fit_many : (numbers : List ℕ) → 32 < length ns → is_some (columns_as (length ns) numbers) ≡ false
   unfolding columns_as
   fit_many numbers h = rw (lt-leb (length ns) 32 h)
 
   module _ (h : length ns ≤ 32) where
-    pub fit_padded : (columns_as (length ns) (padded ns)).fit ≡ fit_together ns
+    pub fit_padded : is_some (columns_as (length ns) (padded ns)) ≡ fit_together ns
     unfolding columns_as
     fit_padded = rw (le-leb (length ns) 32 h, padded-take ns h) (told (fit_together ns))
       where
-        told : (b : Bool) → (cond {A = Columns} b (record { variables = padded ns; fit = true }) no_columns).fit ≡ b
+        told : (b : Bool) → is_some (cond b (Some (padded ns)) None) ≡ b
         told true = refl
         told false = refl
 
-    pub variables-padded : fit_together ns ≡ true → (columns_as (length ns) (padded ns)).variables ≡ padded ns
+    pub columns-padded : fit_together ns ≡ true → columns_as (length ns) (padded ns) ≡ Some (padded ns)
     unfolding columns_as
-    variables-padded e = rw (le-leb (length ns) 32 h, padded-take ns h, e)
+    columns-padded e = rw (le-leb (length ns) 32 h, padded-take ns h, e)

@@ -1,6 +1,7 @@
 -- Numbers seen from the last: those that are marked, those that are kept as columns, and whether they fit together.
 use mathlib.Core.Path.{◌≡◌, refl, sym, ap₂, ◌∙◌}
 use mathlib.Core.Bool.{Bool, true, false, cond, not, ◌&&◌}
+use Rattle.std.specs.Prelude.{None, Some}
 use mathlib.Core.List.{List, [], ◌∷◌}
 use Prim.Native.Nat.{ℕ, zero, suc, ◌-◌, ◌≤◌, ◌<◌}
 use native.Mathlib.Omega.{arith}
@@ -10,7 +11,7 @@ use lib.Dec.{eqb, leb}
 use borrow.Author.Tests.{le-leb, lt-leb, lt-ltb, le-ltb, leb-true, leb-false, eqb-true, eqb-false}
 use Rattle.theory.specs.Basics.{cells, all}
 use Rattle.theory.specs.RunSheet.{occurs, distinct}
-use Rattle.columns.specs.Columns.{padded, is_variable, fit_together, no_columns, columns_as}
+use Rattle.columns.specs.Columns.{padded, is_variable, fit_together, columns_as}
 use Rattle.columns.proofs.Places.{drop-back}
 use Rattle.columns.proofs.Padded.{cells_same, cells-set}
 
@@ -109,17 +110,17 @@ module _
 -- What is handed back
 
 module _ (count : ℕ) (numbers : List ℕ) where
-  pub columns_many : 32 < count → no_columns ≡ columns_as count numbers
+  pub columns_many : 32 < count → None ≡ columns_as count numbers
   unfolding columns_as
   columns_many h = rw (lt-leb count 32 h)
 
   module _ (few : count ≤ 32) where
-    pub columns_none : fit_together (take count numbers) ≡ false → no_columns ≡ columns_as count numbers
+    pub columns_none : fit_together (take count numbers) ≡ false → None ≡ columns_as count numbers
     unfolding columns_as
     columns_none h = rw (le-leb count 32 few, h)
 
     pub columns_done : (seen : List Bool) (variables : List ℕ) → Seen (take count numbers) 0 seen variables
-        → record { variables = variables; fit = true } ≡ columns_as count numbers
+        → Some variables ≡ columns_as count numbers
     unfolding columns_as padded
     columns_done seen variables s =
         let fit : fit_together (take count numbers) ≡ true = ap₂ ◌&&◌ s.low s.differ in

@@ -5,83 +5,43 @@ ghost use Rattle.std.specs.Prelude.{◌≡◌, take};
 ghost use Rattle.theory.specs.Runs.{register};
 ghost use Rattle.theory.specs.Machines.{capacity_of};
 ghost use Rattle.theory.specs.TurnedDown.{within_columns};
-ghost use Rattle.columns.specs.Columns.{no_columns, columns_as, starts};
+ghost use Rattle.columns.specs.Columns.{columns_as, starts};
 
-// The variables of the columns in order. They fit where each is one of the 32 and none comes twice; where they don't, none is handed back.
-#[derive(Drop)]
-pub struct Columns {
-    pub variables: [u8; Columns::MOST],
-    pub fit: bool,
-}
+// The most columns that a sheet has: one for each variable.
+pub const COLUMNS: usize = 32;
 
-impl Columns {
-    pub const MOST: usize = 32;
-
-    // Those of names that don't fit.
-    fn none() -> Self
-        ensures { result ≡ no_columns }
-    {
-        Columns {
-            variables: [0; Columns::MOST],
-            fit: false,
-        }
-    }
-}
-
-// The columns that the first `count` numbers name, seen from the last.
-pub fn named_columns(numbers: [u32; Columns::MOST], count: usize) -> Columns
+// The columns that the first `count` numbers name: they fit where each is one of the 32 variables and none comes twice. Seen from the last.
+pub fn named_columns(numbers: [u32; COLUMNS], count: usize) -> Option<[u8; COLUMNS]>
     ensures { result ≡ columns_as count numbers }
 {
-    if Columns::MOST < count {
-        return Columns::none();
+    if COLUMNS < count {
+        return None;
     }
-    let mut variables = [0u8; Columns::MOST];
-    let mut seen = [false; Columns::MOST];
-    let mut k = count;
-    while 0 < k {
-        k -= 1;
+    let mut variables = [0u8; COLUMNS];
+    let mut seen = [false; COLUMNS];
+    for k in (0..count).rev() {
         let n = numbers[k];
-        if Columns::MOST as u32 <= n {
-            return Columns::none();
+        if COLUMNS as u32 <= n {
+            return None;
         }
         let i = n as usize;
         if seen[i] {
-            return Columns::none();
+            return None;
         }
         seen[i] = true;
         variables[k] = n as u8;
     }
-    Columns {
-        variables,
-        fit: true,
-    }
-}
-
-// A byte as an index.
-fn wide(b: u8) -> usize
-    ensures { result ≡ b }
-{
-    b as usize
+    Some(variables)
 }
 
 // Each value to the variable of its column, from the last: where a name comes twice, the first decides.
-pub fn spread(
-    variables: [u8; Columns::MOST],
-    count: usize,
-    numbers: [u32; Columns::MOST],
-) -> [u32; Columns::MOST]
+pub fn spread(variables: [u8; COLUMNS], count: usize, numbers: [u32; COLUMNS]) -> [u32; COLUMNS]
     ensures { result ≡ starts (take count variables) (take count numbers) }
 {
-    let mut values = [0u32; Columns::MOST];
-    let mut k = if count < Columns::MOST {
-        count
-    } else {
-        Columns::MOST
-    };
-    while 0 < k {
-        k -= 1;
-        let i = wide(variables[k]);
-        if i < Columns::MOST {
+    let mut values = [0u32; COLUMNS];
+    for k in (0..count.min(COLUMNS)).rev() {
+        let i = usize::from(variables[k]);
+        if i < COLUMNS {
             values[i] = numbers[k];
         }
     }
@@ -89,29 +49,23 @@ pub fn spread(
 }
 
 // The capacity of a variable; 0 for one that is none of the 32.
-fn capacity_of(capacities: [u32; Columns::MOST], i: usize) -> u32
+fn capacity_of(capacities: [u32; COLUMNS], i: usize) -> u32
     ensures { result ≡ capacity_of capacities (register i) }
 {
-    if i < Columns::MOST { capacities[i] } else { 0 }
+    if i < COLUMNS { capacities[i] } else { 0 }
 }
 
 // Rule 18, of the first `count` values, seen from the last: each is at most the capacity of the variable of its column.
 pub fn all_within(
-    capacities: [u32; Columns::MOST],
-    variables: [u8; Columns::MOST],
+    capacities: [u32; COLUMNS],
+    variables: [u8; COLUMNS],
     count: usize,
-    numbers: [u32; Columns::MOST],
+    numbers: [u32; COLUMNS],
 ) -> bool
     ensures { result ≡ within_columns capacities (take count variables) (take count numbers) }
 {
-    let mut k = if count < Columns::MOST {
-        count
-    } else {
-        Columns::MOST
-    };
-    while 0 < k {
-        k -= 1;
-        let variable = wide(variables[k]);
+    for k in (0..count.min(COLUMNS)).rev() {
+        let variable = usize::from(variables[k]);
         if capacity_of(capacities, variable) < numbers[k] {
             return false;
         }

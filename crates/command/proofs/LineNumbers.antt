@@ -10,19 +10,20 @@ use lib.Dec.{eqb, ltb}
 use borrow.Author.Tests.{eqb-true, eqb-false, eq-eqb, ne_eqb, ltb-true, ltb-false}
 use lib.ListN.{length, take, drop, length-append, length-drop, length-replicate, drop_of_length-le}
 use lib.Seq.{take-append_seam, take-add, drop_at, length-take-le, drop-drop}
+use Rattle.std.specs.Prelude as code
+use Rattle.std.specs.Prelude.{None, Some, MatchOption, unwrap_or}
 use Rattle.theory.specs.Text.{Bytes, bytes, Found, following, same, prime, name, name_of, Notation, by_digits, by_primes, name_by}
 use Rattle.theory.specs.Basics.{or_else}
-use Rattle.theory.specs.ProgramText.{loop, while, clear, increment, copy, Command, plain, opens, closes, around, assigns, command}
+use Rattle.theory.specs.ProgramText.{loop, while, Command, opens, closes, around, assigns, command}
 use Rattle.theory.proofs.Numerals.{found, name-written}
 use Rattle.theory.proofs.Spellings.{same_iff, name_alone}
 use Rattle.numerals.specs.Numbers.{found_in}
 use Rattle.numerals.specs.declared.Number.{Number}
-use Rattle.numerals.specs.declared.Number.TheVariants.{To, No}
 use Rattle.text.specs.Words.{is_some}
 use Rattle.text.proofs.Words.{after-not, after_is, some_left}
 use Rattle.numerals.proofs.Found.{FoundTo, found_missing, found_there}
 use Rattle.command.specs.declared.Numbers.{Numbers}
-use Rattle.command.specs.Lines.{limited, no_numbers, numbers_as, of_kind, numbered, from_name, most, alike}
+use Rattle.command.specs.Lines.{limited, no_numbers, numbers_as, of_kind, numbered, numbered_if, from_name, most, alike}
 use Rattle.command.specs.Lines.{clears, increments, copies, assignment, loops, endloops, whiles, endwhiles, pair}
 
 -- What follows a word
@@ -36,8 +37,8 @@ after_nothing u = refl
 abbrev pub NameAt : (s : Bytes) (at end number : ℕ) → Type 0
 NameAt s at = FoundTo s most (name (drop at s))
 
-pub name_there : (s : Bytes) (at : ℕ) {end number : ℕ} {v : Number} → v ≡ found_in (length s) most (name (drop at s)) → v ≡ To end number
-    → NameAt s at end number
+pub name_there : (s : Bytes) (at : ℕ) {x : Number} {v : code.Option Number} → v ≡ found_in (length s) most (name (drop at s)) → v ≡ Some x
+    → NameAt s at x.end x.value
 name_there s at =
     found_there s at most (name (drop at s)) λ f e. let w : _ = name-written (drop at s) f e in
     (name_by w.0 f.value, w.1)
@@ -75,7 +76,8 @@ name_room h n = omega (arith, (cut_out h n).size)
 low_enough : (i : ℕ) → limited (min i most) ≡ limited i
 low_enough i = omega arith
 
-numbers_kept : (k i j : ℕ) {m n : ℕ} → m ≡ min i most → n ≡ min j most → numbers_as k m n ≡ numbers_as k i j
+numbers_kept : (k i j : ℕ) {m n : ℕ} → m ≡ min i most → n ≡ min j most
+    → ◌≡◌ {A = code.Option Numbers} (Some (numbers_as k m n)) (Some (numbers_as k i j))
 numbers_kept k i j e f = rw (e, f, low_enough i, low_enough j)
 
 not_same : (a b : Bytes) → (a ≡ b → ⊥) → same a b ≡ false
@@ -88,22 +90,22 @@ not_same a b n = go (same a b) refl
 -- A name between two words
 
 module _ (k : ℕ) (front back s : Bytes) where
-  pub pair_no_front : is_some (following front s) ≡ false → no_numbers ≡ of_kind k (around front back s)
+  pub pair_no_front : is_some (following front s) ≡ false → None ≡ of_kind k (around front back s)
   unfolding around
   pair_no_front e = rw (after-not front s e)
 
   module _ (e : is_some (following front s) ≡ true) where
-    pub pair_no_name : {v : Number} → v ≡ found_in (length s) most (name (drop (length front) s)) → v ≡ No
-        → no_numbers ≡ of_kind k (around front back s)
+    pub pair_no_name : {v : code.Option Number} → v ≡ found_in (length s) most (name (drop (length front) s)) → v ≡ None
+        → None ≡ of_kind k (around front back s)
     unfolding around
     pair_no_name f g = rw ((after_is front s e).0, found_missing (length s) most (name (drop (length front) s)) f g)
 
     module _ {end number : ℕ} (n : NameAt s (length front) end number) where
-      pub pair-back : same back (drop end s) ≡ true → numbers_as k number 0 ≡ of_kind k (around front back s)
+      pub pair-back : same back (drop end s) ≡ true → Some (numbers_as k number 0) ≡ of_kind k (around front back s)
       unfolding around
       pair-back f = rw ((after_is front s e).0, n.is, f) (numbers_kept k n.value 0 n.kept refl)
 
-      pub pair_no_back : same back (drop end s) ≡ false → no_numbers ≡ of_kind k (around front back s)
+      pub pair_no_back : same back (drop end s) ≡ false → None ≡ of_kind k (around front back s)
       unfolding around
       pair_no_back f = rw ((after_is front s e).0, n.is, f)
 
@@ -155,46 +157,46 @@ module _ {s : Bytes} {end number at last source : ℕ} (f : NameAt s 0 end numbe
 -- Increments and copies
 
 module _ {s : Bytes} {end number : ℕ} (f : NameAt s 0 end number) where
-  abbrev from : Numbers
-  from = numbered (from_name f.value (drop (end + 4) s))
+  abbrev from : code.Option Numbers
+  from = numbered_if (from_name f.value (drop (end + 4) s))
 
-  pub assigned_no_name : {v : Number} → v ≡ found_in (length s) most (name (drop (end + 4) s)) → v ≡ No → no_numbers ≡ from
+  pub assigned_no_name : {v : code.Option Number} → v ≡ found_in (length s) most (name (drop (end + 4) s)) → v ≡ None → None ≡ from
   unfolding from_name
   assigned_no_name e g = rw (found_missing (length s) most (name (drop (end + 4) s)) e g)
 
   module _ {last source : ℕ} (n : NameAt s (end + 4) last source) where
-    pub assigned_copy : length s ≤ last → numbers_as 3 number source ≡ from
+    pub assigned_copy : length s ≤ last → Some (numbers_as 3 number source) ≡ from
     unfolding from_name same
     assigned_copy l = rw (n.is, drop_of_length-le s l) (numbers_kept 3 f.value n.value f.kept n.kept)
 
     module _ (l : last < length s) where
-      pub assigned_no_back : same (bytes " + 1") (drop last s) ≡ false → no_numbers ≡ from
+      pub assigned_no_back : same (bytes " + 1") (drop last s) ≡ false → None ≡ from
       unfolding from_name
       assigned_no_back e = rw (n.is, e, some_left s last l)
 
       module _ (h : end + 4 ≤ length s) (m : length s ≤ most) (e : same (bytes " + 1") (drop last s) ≡ true) where
-        pub assigned_increment : alike s end number (end + 4) last source ≡ true → numbers_as 2 number 0 ≡ from
+        pub assigned_increment : alike s end number (end + 4) last source ≡ true → Some (numbers_as 2 number 0) ≡ from
         unfolding from_name
         assigned_increment g = rw (n.is, e, sym (alike-values f n h m) ∙ g) (numbers_kept 2 f.value 0 f.kept refl)
 
-        pub assigned_other : alike s end number (end + 4) last source ≡ false → no_numbers ≡ from
+        pub assigned_other : alike s end number (end + 4) last source ≡ false → None ≡ from
         unfolding from_name
         assigned_other g = rw (n.is, e, sym (alike-values f n h m) ∙ g, some_left s last l)
 
 -- A line that begins with a name, or does not
 
 module _ (s : Bytes) where
-  pub assignment_no_name : {v : Number} → v ≡ found_in (length s) most (name s) → v ≡ No → no_numbers ≡ numbered (assignment s)
+  pub assignment_no_name : {v : code.Option Number} → v ≡ found_in (length s) most (name s) → v ≡ None → None ≡ numbered_if (assignment s)
   unfolding assignment around assigns following
   assignment_no_name f g = rw (found_missing (length s) most (name s) f g)
 
   module _ {end number : ℕ} (n : NameAt s 0 end number) where
-    pub assignment_clear : same (bytes " <- 0") (drop end s) ≡ true → numbers_as 1 number 0 ≡ numbered (assignment s)
+    pub assignment_clear : same (bytes " <- 0") (drop end s) ≡ true → Some (numbers_as 1 number 0) ≡ numbered_if (assignment s)
     unfolding assignment around following
     assignment_clear e = rw (n.is, e) (numbers_kept 1 n.value 0 n.kept refl)
 
     module _ (c : same (bytes " <- 0") (drop end s) ≡ false) where
-      pub assignment_no_arrow : is_some (following (bytes " <- ") (drop end s)) ≡ false → no_numbers ≡ numbered (assignment s)
+      pub assignment_no_arrow : is_some (following (bytes " <- ") (drop end s)) ≡ false → None ≡ numbered_if (assignment s)
       unfolding assignment around assigns
       assignment_no_arrow e = rw (after_nothing s, n.is, c, after-not (bytes " <- ") (drop end s) e)
 
@@ -202,91 +204,67 @@ module _ (s : Bytes) where
       assignment_room e = omega (arith, (after_is (bytes " <- ") (drop end s) e).1, length-drop end s, n.within)
 
       pub assignment-from : is_some (following (bytes " <- ") (drop end s)) ≡ true
-          → numbered (from_name n.value (drop (end + 4) s)) ≡ numbered (assignment s)
+          → numbered_if (from_name n.value (drop (end + 4) s)) ≡ numbered_if (assignment s)
       unfolding assignment around assigns from_name
       assignment-from e = rw (after_nothing s, n.is, c, (after_is (bytes " <- ") (drop end s) e).0, drop-drop 4 end s)
 
 -- The spellings, one following the other
 
-one_by_one : (a b c d : Option Command) → or_else a (or_else b (or_else c d)) ≡ or_else (or_else a (or_else b c)) d
-one_by_one none none c d = refl
-one_by_one none (some b) c d = refl
-one_by_one (some a) b c d = refl
+one_by_one : (a b c : Option Command) → or_else (or_else a b) c ≡ or_else a (or_else b c)
+one_by_one none b c = refl
+one_by_one (some a) b c = refl
 
-numbers-first : (o p : Option Command) {r : Numbers} → r ≡ numbered o → (r.kind ≡ 0 → ⊥) → r ≡ numbered (or_else o p)
-numbers-first none p e n = absurd (n (ap (λ (r : Numbers). r.kind) e))
-numbers-first (some c) p e n = e
+mapped : (k : ℕ) (f : ℕ → Command) (o : Option ℕ) → ((i : ℕ) → numbers_as k i 0 ≡ numbered (some (f i)))
+    → of_kind k o ≡ numbered_if (map f o)
+mapped k f none h = refl
+mapped k f (some i) h = ap (λ (n : Numbers). Some n) (h i)
 
-numbers-next : (o p : Option Command) {r : Numbers} → r ≡ numbered o → r.kind ≡ 0 → numbered (or_else o p) ≡ numbered p
-numbers-next none p e z = refl
-numbers-next (some c) p e z = absurd (go c (sym (ap (λ (r : Numbers). r.kind) e) ∙ z))
-  where
-    go : (c : Command) → (numbered (some c)).kind ≡ 0 → ⊥
-    go (plain (clear i)) f = omega arith
-    go (plain (increment i)) f = omega arith
-    go (plain (copy i j)) f = omega arith
-    go (opens loop i) f = omega arith
-    go (closes loop i) f = omega arith
-    go (opens while i) f = omega arith
-    go (closes while i) f = omega arith
+-- The first of two, where it is found, else the second
+numbers-next : (o p : Option Command) {v r : code.Option Numbers} (P : Type 0) → v ≡ numbered_if o → (P → r ≡ numbered_if p)
+    → MatchOption v P (λ x. r ≡ Some x) → r ≡ numbered_if (or_else o p)
+numbers-next none p P e f h = f (rw e at h)
+numbers-next (some c) p P e f h = rw e at h
 
-mapped_4 : (o : Option ℕ) → of_kind 4 o ≡ numbered (map (opens loop) o)
-mapped_4 none = refl
-mapped_4 (some i) = refl
-
-mapped_5 : (o : Option ℕ) → of_kind 5 o ≡ numbered (map (closes loop) o)
-mapped_5 none = refl
-mapped_5 (some i) = refl
-
-mapped_6 : (o : Option ℕ) → of_kind 6 o ≡ numbered (map (opens while) o)
-mapped_6 none = refl
-mapped_6 (some i) = refl
-
-mapped_7 : (o : Option ℕ) → of_kind 7 o ≡ numbered (map (closes while) o)
-mapped_7 none = refl
-mapped_7 (some i) = refl
+numbers-last : (o : Option Command) → unwrap_or (numbered_if o) no_numbers ≡ numbered o
+numbers-last none = refl
+numbers-last (some c) = refl
 
 -- The first three, and the other four
 spellings : (s : Bytes) → command s ≡ or_else (assignment s) (pair s)
 unfolding command assignment pair
-spellings s = one_by_one (clears s) (increments s) (copies s) (or_else (loops s) (or_else (endloops s) (or_else (whiles s) (endwhiles s))))
+spellings s =
+    let rest : Option Command = or_else (loops s) (or_else (endloops s) (or_else (whiles s) (endwhiles s))) in
+    sym (one_by_one (clears s) (or_else (increments s) (copies s)) rest
+    ∙ ap (or_else (clears s)) (one_by_one (increments s) (copies s) rest))
 
-module _ (s : Bytes) {a : Numbers} (ea : a ≡ numbered (assignment s)) where
-  pub numbers_assigned : (a.kind ≡ 0 → ⊥) → a ≡ numbered (command s)
-  numbers_assigned n = rw (spellings s) (numbers-first (assignment s) _ ea n)
+module _ (s : Bytes) where
+  abbrev two : Option Command
+  two = or_else (loops s) (endloops s)
 
-  pub numbers_paired : a.kind ≡ 0 → {b : Numbers} → b ≡ numbered (pair s) → b ≡ numbered (command s)
-  numbers_paired z e = e ∙ sym (ap numbered (spellings s) ∙ numbers-next (assignment s) _ ea z)
+  abbrev three : Option Command
+  three = or_else two (whiles s)
 
-module _ (s : Bytes) {b : Numbers} (eb : b ≡ of_kind 4 (around (bytes "loop ") (bytes "") s)) where
-  is_b : b ≡ numbered (loops s)
-  is_b = eb ∙ mapped_4 (around (bytes "loop ") (bytes "") s)
+  module _ {v r : code.Option Numbers} {P : Type 0} where
+    pub pairs_2 : v ≡ of_kind 4 (around (bytes "loop ") (bytes "") s) → (P → r ≡ of_kind 5 (around (bytes "endloop ") (bytes "") s))
+        → MatchOption v P (λ x. r ≡ Some x) → r ≡ numbered_if two
+    pairs_2 e f =
+        numbers-next (loops s) (endloops s) _ (e ∙ mapped 4 (opens loop) (around (bytes "loop ") (bytes "") s) (λ i. refl))
+        (λ h. f h ∙ mapped 5 (closes loop) (around (bytes "endloop ") (bytes "") s) (λ i. refl))
 
-  pub numbers_b : (b.kind ≡ 0 → ⊥) → b ≡ numbered (pair s)
-  unfolding pair
-  numbers_b n = numbers-first (loops s) _ is_b n
+    pub pairs_3 : v ≡ numbered_if two → (P → r ≡ of_kind 6 (around (bytes "while ") (bytes " != 0") s))
+        → MatchOption v P (λ x. r ≡ Some x) → r ≡ numbered_if three
+    pairs_3 e f =
+        numbers-next two (whiles s) _ e (λ h. f h ∙ mapped 6 (opens while) (around (bytes "while ") (bytes " != 0") s) (λ i. refl))
 
-  module _ (zb : b.kind ≡ 0) {c : Numbers} (ec : c ≡ of_kind 5 (around (bytes "endloop ") (bytes "") s)) where
-    past_b : numbered (pair s) ≡ numbered (or_else (endloops s) (or_else (whiles s) (endwhiles s)))
+    pub pairs_4 : v ≡ numbered_if three → (P → r ≡ of_kind 7 (around (bytes "endwhile ") (bytes " != 0") s))
+        → MatchOption v P (λ x. r ≡ Some x) → r ≡ numbered_if (pair s)
     unfolding pair
-    past_b = numbers-next (loops s) _ is_b zb
+    pairs_4 e f h =
+        numbers-next three (endwhiles s) _ e
+        (λ g. f g ∙ mapped 7 (closes while) (around (bytes "endwhile ") (bytes " != 0") s) (λ i. refl)) h
+        ∙ ap numbered_if (one_by_one two (whiles s) (endwhiles s)
+        ∙ one_by_one (loops s) (endloops s) (or_else (whiles s) (endwhiles s)))
 
-    is_c : c ≡ numbered (endloops s)
-    is_c = ec ∙ mapped_5 (around (bytes "endloop ") (bytes "") s)
-
-    pub numbers_c : (c.kind ≡ 0 → ⊥) → c ≡ numbered (pair s)
-    numbers_c n = numbers-first (endloops s) _ is_c n ∙ sym past_b
-
-    module _ (zc : c.kind ≡ 0) {d : Numbers} (ed : d ≡ of_kind 6 (around (bytes "while ") (bytes " != 0") s)) where
-      past_c : numbered (pair s) ≡ numbered (or_else (whiles s) (endwhiles s))
-      past_c = past_b ∙ numbers-next (endloops s) _ is_c zc
-
-      is_d : d ≡ numbered (whiles s)
-      is_d = ed ∙ mapped_6 (around (bytes "while ") (bytes " != 0") s)
-
-      pub numbers_d : (d.kind ≡ 0 → ⊥) → d ≡ numbered (pair s)
-      numbers_d n = numbers-first (whiles s) _ is_d n ∙ sym past_c
-
-      pub numbers_e : d.kind ≡ 0 → {e : Numbers} → e ≡ of_kind 7 (around (bytes "endwhile ") (bytes " != 0") s)
-          → e ≡ numbered (pair s)
-      numbers_e zd ee = ee ∙ mapped_7 (around (bytes "endwhile ") (bytes " != 0") s) ∙ sym (past_c ∙ numbers-next (whiles s) _ is_d zd)
+  pub numbers-whole : {v r : code.Option Numbers} {P : Type 0} → v ≡ numbered_if (assignment s) → (P → r ≡ numbered_if (pair s))
+      → MatchOption v P (λ x. r ≡ Some x) → unwrap_or r no_numbers ≡ numbered (command s)
+  numbers-whole e f h = rw (numbers-next (assignment s) (pair s) _ e f h, spellings s) (numbers-last (or_else (assignment s) (pair s)))

@@ -1,5 +1,6 @@
 -- What the code reads of a line: three numbers, indices limited to 32, which stands for all above 31.
-use Rattle.std.specs.Prelude.{Bool, cond, ◌≡◌, ℕ, ◌+◌, min, eqb, ltb, take, drop}
+use Rattle.std.specs.Prelude as code
+use Rattle.std.specs.Prelude.{None, Some, Bool, cond, ◌≡◌, ℕ, ◌+◌, min, eqb, ltb, take, drop}
 use Rattle.std.proofs.Math.Option.{Option, none, some, map}
 use Rattle.theory.specs.Basics.{given, or_else, and_then}
 use Rattle.theory.specs.Text.{Bytes, bytes, same, name}
@@ -16,9 +17,9 @@ no_numbers = record { kind = 0; index = 0; source = 0 }
 abbrev pub numbers_as : ℕ → ℕ → ℕ → Numbers
 numbers_as k i j = record { kind = k; index = limited i; source = limited j }
 
-abbrev pub of_kind : ℕ → Option ℕ → Numbers
-of_kind k none = no_numbers
-of_kind k (some i) = numbers_as k i 0
+abbrev pub of_kind : ℕ → Option ℕ → code.Option Numbers
+of_kind k none = None
+of_kind k (some i) = Some (numbers_as k i 0)
 
 abbrev pub numbered : Option Command → Numbers
 numbered none = no_numbers
@@ -29,6 +30,11 @@ numbered (some (opens loop i)) = numbers_as 4 i 0
 numbered (some (closes loop i)) = numbers_as 5 i 0
 numbered (some (opens while i)) = numbers_as 6 i 0
 numbered (some (closes while i)) = numbers_as 7 i 0
+
+-- The same where there is a command
+abbrev pub numbered_if : Option Command → code.Option Numbers
+numbered_if none = None
+numbered_if (some c) = Some (numbered (some c))
 
 -- What an assignment to variable i is, by what stands after its arrow: an increment or a copy
 unfoldable pub from_name : ℕ → Bytes → Option Command
@@ -46,10 +52,11 @@ most = 18446744073709551615
 abbrev pub alike : Bytes → ℕ → ℕ → ℕ → ℕ → ℕ → Bool
 alike s end value at last source = cond (ltb value most) (eqb value source) (same (take end s) (drop at (take last s)))
 
--- What the numbers r say of a line s that begins with a name, which ends at `end`, and has an arrow after it
-abbrev pub Assigned : Bytes → ℕ → ℕ → Numbers → Type 0
+-- What the numbers r, if any, say of a line s that begins with a name, which ends at `end`, and has an arrow after it
+abbrev pub Assigned : Bytes → ℕ → ℕ → code.Option Numbers → Type 0
 Assigned s end value r =
-    (i : ℕ) → name s ≡ some (record { value = i; rest = drop end s }) → value ≡ min i most → r ≡ numbered (from_name i (drop (end + 4) s))
+    (i : ℕ) → name s ≡ some (record { value = i; rest = drop end s }) → value ≡ min i most
+    → r ≡ numbered_if (from_name i (drop (end + 4) s))
 
 -- The first three spellings
 abbrev pub clears : Bytes → Option Command

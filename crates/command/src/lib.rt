@@ -5,7 +5,8 @@ mod reading;
 
 pub use reading::numbers_of;
 
-// The kinds of commands, in the order of the spellings.
+// The kinds of commands, in the order of the spellings. They are numbers and no enum: C lends a list as bytes, any of which may stand where
+// a kind is read, and what is answered then is promised too.
 pub const CLEAR: u8 = 1;
 
 pub const INCREMENT: u8 = 2;

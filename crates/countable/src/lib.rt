@@ -6,8 +6,8 @@ ghost use Rattle.theory.specs.Basics.{all};
 ghost use Rattle.countable.specs.Countable.{no_2, has_counts, is_countable};
 ghost use Rattle.registers.specs.Fresh.{values_within};
 
-use layout::{REGISTERS, capacity_at, wide};
-use usable::{Unusable, first_unusable};
+use layout::{REGISTERS, capacity_at};
+use usable::first_unusable;
 use word::Instruction;
 
 // Whether no instruction appends #. All kinds are looked at, so that many are tested at once.
@@ -15,12 +15,10 @@ pub fn no_hash(kinds: &[u8]) -> bool
     ensures { result ≡ all no_2 kinds.now }
 {
     let mut ok = true;
-    let mut i: usize = 0;
-    while i < kinds.len() {
-        if kinds[i] == Instruction::APPEND_HASH {
+    for kind in kinds {
+        if *kind == Instruction::APPEND_HASH {
             ok = false;
         }
-        i += 1;
     }
     ok
 }
@@ -29,12 +27,10 @@ pub fn no_hash(kinds: &[u8]) -> bool
 fn all_within(capacities: &[u16], lengths: &[u16]) -> bool
     ensures { result ≡ values_within capacities.now lengths.now }
 {
-    let mut i: usize = 0;
-    while i < lengths.len() {
-        if capacity_at(capacities, i) < wide(lengths[i]) {
+    for (i, length) in lengths.iter().enumerate() {
+        if capacity_at(capacities, i) < usize::from(*length) {
             return false;
         }
-        i += 1;
     }
     true
 }
@@ -63,7 +59,7 @@ pub fn is_countable(capacities: &[u16], lengths: &[u16], kinds: &[u8], operands:
         return false;
     }
     match first_unusable(capacities.len(), kinds, operands) {
-        Unusable::At(_) => false,
-        Unusable::Nothing => true,
+        Some(_) => false,
+        None => true,
     }
 }

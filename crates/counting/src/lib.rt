@@ -2,16 +2,10 @@
 // tested at once: how many instructions a word has where rules 12 and 13 let it pass.
 #![tactic(auto)]
 
-ghost use Rattle.std.specs.Prelude.{◌≡◌, true, ◌≤◌, min, max, length};
+ghost use Rattle.std.specs.Prelude.{◌≡◌, true, ◌≤◌, length};
 ghost use Rattle.theory.specs.Basics.{all};
 ghost use Rattle.theory.specs.Word.{is_symbol};
 ghost use Rattle.counting.specs.Counts.{instruction_count, is_sixless, rises as rises-in};
-
-fn larger(a: u8, b: u8) -> u8
-    ensures { result ≡ max a b }
-{
-    if a < b { b } else { a }
-}
 
 // Whether of six bytes that stand together one is a 1, everywhere in a word of 1s and #s.
 fn few_hashes(word: &[u8]) -> bool
@@ -23,15 +17,13 @@ fn few_hashes(word: &[u8]) -> bool
     }
     let end = word.len() - 5;
     let mut ok = true;
-    let mut i: usize = 0;
-    while i < end {
-        let first = larger(word[i], word[i + 1]);
-        let second = larger(word[i + 2], word[i + 3]);
-        let third = larger(word[i + 4], word[i + 5]);
-        if larger(larger(first, second), third) < b'1' {
+    for i in 0..end {
+        let first = word[i].max(word[i + 1]);
+        let second = word[i + 2].max(word[i + 3]);
+        let third = word[i + 4].max(word[i + 5]);
+        if first.max(second).max(third) < b'1' {
             ok = false;
         }
-        i += 1;
     }
     ok
 }
@@ -43,20 +35,12 @@ fn rises_of(part: &[u8]) -> u8
 {
     let last = part.len() - 1;
     let mut n: u8 = 0;
-    let mut i: usize = 0;
-    while i < last {
+    for i in 0..last {
         if part[i] < part[i + 1] {
             n += 1;
         }
-        i += 1;
     }
     n
-}
-
-fn smaller(a: usize, b: usize) -> usize
-    ensures { result ≡ min a b }
-{
-    if a < b { a } else { b }
 }
 
 // How many 1s stand behind a #, counted part by part, since a count of few bits is the fastest.
@@ -68,8 +52,8 @@ fn rises(word: &[u8]) -> usize
     let mut n: usize = 0;
     let mut i: usize = 0;
     while i < last {
-        let end = i + smaller(last - i, 128);
-        n += rises_of(&word[i..end + 1]) as usize;
+        let end = i + (last - i).min(128);
+        n += usize::from(rises_of(&word[i..end + 1]));
         i = end;
     }
     n

@@ -5,6 +5,7 @@ use mathlib.Core.List.{List}
 use Prim.Native.Nat.{ℕ, ◌+◌, ◌-◌, ◌≤◌, ◌<◌}
 use native.Mathlib.Omega.{arith}
 use lib.ListN.{length}
+use Rattle.std.specs.Prelude.{Some, None, Ok, Err}
 use Rattle.theory.specs.Word as W
 use Rattle.theory.specs.declared.End.TheVariants.{Full}
 use Rattle.registers.specs.Fresh.{fresh_registers}
@@ -12,8 +13,7 @@ use Rattle.underway.specs.Places.{bias, state}
 use Rattle.underway.specs.Ends.{Allowance, goes_on, end_at}
 use Rattle.underway.specs.Inside.{Stopped}
 use Rattle.underway.proofs.Running as U
-use Rattle.counts.specs.declared.steps.Stride.TheVariants as Stride
-use Rattle.counts.specs.declared.stretches.Reached.TheVariants as Reached
+use Rattle.counts.specs.declared.steps.Stride.{Stride}
 use Rattle.countable.specs.Countable.{Countable}
 use Rattle.counts.specs.Counts.{Counts, lengths_run}
 use Rattle.counts.specs.Strides.{Strode, Stretched}
@@ -43,7 +43,7 @@ module _ (capacities lengths₀ kinds operands : List ℕ) (from steps budget al
 
     -- A stride from there
     module _ (a : bias < here) (b : here ≤ bias + length kinds) (l : k < allowed) {after : List ℕ} where
-      pub counting_full : Strode capacities lengths kinds operands here (allowed - k) Stride.Full after
+      pub counting_full : Strode capacities lengths kinds operands here (allowed - k) None after
           → Stopped (Counts capacities after) (lengths_run capacities lengths₀ kinds operands from steps budget)
           (record { end = Full; steps = k; here = here })
       counting_full h =
@@ -51,9 +51,9 @@ module _ (capacities lengths₀ kinds operands : List ℕ) (from steps budget al
           (Counts capacities after)
           (rw h.1 (record { are = refl; paired = c.countable.paired; within = c.countable.within })) a b l h.0
 
-      pub counting_goes : (there n : ℕ) → Strode capacities lengths kinds operands here (allowed - k) (Stride.To there n) after
-          → Counting after there (k + n)
-      counting_goes there n h = record {
+      pub counting_goes : (s : Stride) → Strode capacities lengths kinds operands here (allowed - k) (Some s) after
+          → Counting after s.there (k + s.steps)
+      counting_goes s h = record {
         runs = U.running_goes capacities kinds operands start steps budget allowed c.countable.usable al c.runs h.0
             (omega (arith, h.2)) (omega (arith, h.3, c.countable.usable.count));
         countable = still_countable c.countable h.4;
@@ -61,18 +61,18 @@ module _ (capacities lengths₀ kinds operands : List ℕ) (from steps budget al
 
     -- A stretch from there
     module _ {after : List ℕ} where
-      pub counting_reached_full : (there n : ℕ) → Stretched capacities lengths kinds operands here (allowed - k) (Reached.Full there n) after
+      pub counting_reached_full : (s : Stride) → Stretched capacities lengths kinds operands here (allowed - k) (Err s) after
           → Stopped (Counts capacities after) (lengths_run capacities lengths₀ kinds operands from steps budget)
-          (record { end = Full; steps = k + n; here = there })
-      counting_reached_full there n h =
+          (record { end = Full; steps = k + s.steps; here = s.there })
+      counting_reached_full s h =
           U.running_full capacities kinds operands start steps budget allowed c.countable.usable al
           (U.running_goes capacities kinds operands start steps budget allowed c.countable.usable al c.runs h.0
           (omega (arith, h.1)) (omega (arith, h.3, c.countable.usable.count)))
           (Counts capacities after) h.4 h.2 h.3 (omega (arith, h.1)) h.5
 
-      pub counting_reached : (there n : ℕ) → Stretched capacities lengths kinds operands here (allowed - k) (Reached.To there n) after
-          → Counting after there (k + n)
-      counting_reached there n h = record {
+      pub counting_reached : (s : Stride) → Stretched capacities lengths kinds operands here (allowed - k) (Ok s) after
+          → Counting after s.there (k + s.steps)
+      counting_reached s h = record {
         runs = U.running_goes capacities kinds operands start steps budget allowed c.countable.usable al c.runs h.0
             (omega (arith, h.2, c.runs.done)) h.3;
         countable = still_countable c.countable h.4;

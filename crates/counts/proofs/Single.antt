@@ -11,6 +11,7 @@ use lib.Dec.{eqb, ltb, leb}
 use lib.IntN.{pos}
 use lib.ListN.{length, get_or, set, length-set, length-replicate, replicate-append-replicate, get_or-eq_default}
 use lib.Seq.{get_or-set_same, get_or-set_other}
+use Rattle.std.specs.Prelude.{Some}
 use Rattle.theory.specs.Basics.{put}
 use Rattle.theory.specs.Runs.{Goes, stay, move, each, within_each}
 use Rattle.theory.specs.Word as W
@@ -30,7 +31,6 @@ use Rattle.underway.proofs.Outside.{placed_number}
 use Rattle.underway.proofs.Instructions.{instructions-at}
 use Rattle.underway.proofs.Running.{here_is, next_is}
 use Rattle.counts.specs.declared.steps.Stride.{Stride}
-use Rattle.counts.specs.declared.steps.Stride.TheVariants.{To}
 use Rattle.countable.specs.Countable.{Countable}
 use Rattle.counts.specs.Counts.{Counts}
 use Rattle.counts.specs.Strides.{Taken, Added, after_cases, after_append, Turned, TurnedAt, Strode}
@@ -116,7 +116,7 @@ module _ (capacities lengths kinds operands : List ℕ) (cs : Countable capaciti
 
   module _ (left : ℕ) (some_left : 1 ≤ left) where
     pub strode_forward : (n : ℕ) → kind ≡ 3 → n ≡ operand → n ≤ 600000
-        → Strode capacities lengths kinds operands here left (To (here + n) 1) lengths
+        → Strode capacities lengths kinds operands here left (Some (record { there = here + n; steps = 1 })) lengths
     strode_forward n k o small = (
       one_step (forward n) (λ x p q. is_forward x (p ∙ k) (q ∙ sym o)) (here + n) f (rw (place_forward here n)),
       omega arith,
@@ -132,7 +132,7 @@ module _ (capacities lengths kinds operands : List ℕ) (cs : Countable capaciti
       took m e = rw (fresh_at lengths r, e, place_forward here 2, fresh_set lengths r m h)
 
       pub strode_cases : (ok : Bool) (after : List ℕ) → kind ≡ 5 → Taken lengths r ok after
-          → Strode capacities lengths kinds operands here left (after_cases ok here) after
+          → Strode capacities lengths kinds operands here left (Some (after_cases ok here)) after
       strode_cases true after k t =
           let m = get_or lengths r 0 - 1 in
           rw t.1 (
@@ -191,7 +191,7 @@ module _ (capacities lengths kinds operands : List ℕ) (cs : Countable capaciti
 
     -- Back, and the turns that begin there
     pub strode_back : (there n : ℕ) (r : Stride) (after : List ℕ) → kind ≡ 4 → n ≡ operand → there + n ≡ here → n ≤ here
-        → Turned capacities lengths kinds operands there n left r after → Strode capacities lengths kinds operands here left r after
+        → Turned capacities lengths kinds operands there n left r after → Strode capacities lengths kinds operands here left (Some r) after
     strode_back there n r after k o e small = go (leb there bias) refl
       where
         i : ℕ
@@ -207,7 +207,7 @@ module _ (capacities lengths kinds operands : List ℕ) (cs : Countable capaciti
         spells = instructions-at (length capacities) kinds operands cs.usable.paired cs.usable.each
 
         go : (t : Bool) → leb there bias ≡ t → TurnedAt t capacities lengths kinds operands there n left r after
-            → Strode capacities lengths kinds operands here left r after
+            → Strode capacities lengths kinds operands here left (Some r) after
         go true d h = rw (h.0, h.1) (first, omega arith, some_left, omega arith, kept)
         go false d h =
             let past : bias < there = leb-false there bias d in

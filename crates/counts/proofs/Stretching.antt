@@ -8,6 +8,7 @@ use native.Mathlib.Omega.{arith}
 use borrow.Author.Tests.{lt-ltb, le-leb, eqb-true}
 use lib.Dec.{eqb}
 use lib.ListN.{length}
+use Rattle.std.specs.Prelude.{Some, None, Ok, Err}
 use Rattle.theory.specs.Runs.{Goes, stay, each}
 use Rattle.theory.specs.Text.{same}
 use Rattle.theory.proofs.Faults.{and_first, and_second}
@@ -19,8 +20,7 @@ use Rattle.registers.specs.Fresh.{fresh_registers}
 use Rattle.underway.specs.Places.{bias, state}
 use Rattle.underway.specs.Ends.{goes_on}
 use Rattle.underway.specs.Inside.{machine_of}
-use Rattle.counts.specs.declared.steps.Stride.TheVariants as Stride
-use Rattle.counts.specs.declared.stretches.Reached.TheVariants as Reached
+use Rattle.counts.specs.declared.steps.Stride.{Stride}
 use Rattle.counts.specs.Counts.{Counts}
 use Rattle.counts.specs.Strides.{Strode, Stretched}
 
@@ -59,13 +59,13 @@ module _ (capacities lengths₀ kinds operands : List ℕ) (from left : ℕ) whe
   }
 
   module _ {lengths : List ℕ} {here k : ℕ} (s : Stretching lengths here k) where
-    pub stretching_to : 1 ≤ k → Stretched capacities lengths₀ kinds operands from left (Reached.To here k) lengths
+    pub stretching_to : 1 ≤ k → Stretched capacities lengths₀ kinds operands from left (Ok (record { there = here; steps = k })) lengths
     stretching_to some = (s.goes, some, s.few, s.near, counts_of s.countable)
 
     module _ {after : List ℕ} (b : here ≤ bias + length kinds) where
-      pub stretching_goes : (there n : ℕ) → Strode capacities lengths kinds operands here (left - k) (Stride.To there n) after
-          → Stretching after there (k + n)
-      stretching_goes there n h = record {
+      pub stretching_goes : (m : Stride) → Strode capacities lengths kinds operands here (left - k) (Some m) after
+          → Stretching after m.there (k + m.steps)
+      stretching_goes m h = record {
         goes = join s.goes h.0;
         few = omega (arith, h.2, s.few);
         near = omega (arith, h.3, s.countable.usable.count);
@@ -73,8 +73,8 @@ module _ (capacities lengths₀ kinds operands : List ℕ) (from left : ℕ) whe
         began = λ e. absurd (omega (arith, h.1));
       }
 
-      pub stretching_full : bias < here → k < left → Strode capacities lengths kinds operands here (left - k) Stride.Full after
-          → Stretched capacities lengths₀ kinds operands from left (Reached.Full here k) after
+      pub stretching_full : bias < here → k < left → Strode capacities lengths kinds operands here (left - k) None after
+          → Stretched capacities lengths₀ kinds operands from left (Err (record { there = here; steps = k })) after
       stretching_full a l h = rw h.1 (s.goes, l, a, b, counts_of s.countable, h.0)
 
     -- A stretch that began at an instruction does not end before its first stride
@@ -94,20 +94,20 @@ module _ (capacities lengths₀ kinds operands : List ℕ) (from left : ℕ) whe
             absurd (false≢true (sym z))
 
 -- Whole rounds of a stretch that leads back to where it began
-pub all_round : (capacities before after kinds operands : List ℕ) (from left there n more : ℕ)
-    → Stretched capacities before kinds operands from left (Reached.To there n) after
-    → (eqb there from && same after before) ≡ true → more ≡ (left - n) / n * n
-    → Stretched capacities before kinds operands from left (Reached.To there (n + more)) after
-all_round capacities before after kinds operands from left there n more h back e =
-    let place : there ≡ from = eqb-true there from (and_first (eqb there from) (same after before) back) in
-    let lengths : after ≡ before = (same_iff after before).0 (and_second (eqb there from) (same after before) back) in
-    let once : Goes (machine_of capacities kinds operands).next each (state from (fresh_registers before)) n
+pub all_round : (capacities before after kinds operands : List ℕ) (from left : ℕ) (s : Stride) (more : ℕ)
+    → Stretched capacities before kinds operands from left (Ok s) after
+    → (eqb s.there from && same after before) ≡ true → more ≡ (left - s.steps) / s.steps * s.steps
+    → Stretched capacities before kinds operands from left (Ok (record { there = s.there; steps = s.steps + more })) after
+all_round capacities before after kinds operands from left s more h back e =
+    let place : s.there ≡ from = eqb-true s.there from (and_first (eqb s.there from) (same after before) back) in
+    let lengths : after ≡ before = (same_iff after before).0 (and_second (eqb s.there from) (same after before) back) in
+    let once : Goes (machine_of capacities kinds operands).next each (state from (fresh_registers before)) s.steps
     (state from (fresh_registers before)) = rw (place, lengths) at h.0 in
     let again : Goes (machine_of capacities kinds operands).next each (state from (fresh_registers before)) more
-    (state from (fresh_registers before)) = ends (sym e) refl (goes_round ((left - n) / n) once) in (
+    (state from (fresh_registers before)) = ends (sym e) refl (goes_round ((left - s.steps) / s.steps) once) in (
       rw (place, lengths) (join once again),
       omega (arith, h.1),
-      omega (arith, h.2, div-mul-le_self (left - n) n),
+      omega (arith, h.2, div-mul-le_self (left - s.steps) s.steps),
       h.3,
       h.4,
     )

@@ -1,16 +1,13 @@
 -- Runs on registers that hold 1s alone, each of which is then its length: what such a run hands back.
-use Rattle.std.specs.Prelude.{◌≡◌, Bool, true, false, List, ℕ, ◌+◌, ◌≤◌, length, get_or}
+use Rattle.std.specs.Prelude.{◌≡◌, Bool, true, false, List, ℕ, ◌+◌, ◌≤◌, length, get_or, Option, Some, None, Ok}
 use Rattle.theory.specs.Runs.{Outcome, run}
 use Rattle.theory.specs.Word as W
 use Rattle.theory.specs.Word.{Symbol}
 use Rattle.registers.specs.Fresh.{fresh_registers}
 use Rattle.memory.specs.declared.answers.Position.{Position}
 use Rattle.memory.specs.declared.answers.Run.{Run}
-use Rattle.memory.specs.declared.answers.Ended.TheVariants as Ended
 use Rattle.underway.specs.Places.{state}
 use Rattle.underway.specs.Inside.{machine_of}
-use Rattle.counts.specs.declared.Counted.{Counted}
-use Rattle.counts.specs.declared.Counted.TheVariants.{Ran, Other}
 
 -- The run that the definition gives, from the registers that the lengths give
 abbrev pub counted_outcome : List ℕ → List ℕ → Position → List ℕ → List ℕ → ℕ → Outcome W.State
@@ -32,11 +29,11 @@ pub record Counts (capacities lengths : List ℕ) (f : ℕ → List Symbol) : Ty
 pub record RanAs (capacities : List ℕ) (at : Position) (o : Outcome W.State) (r : Run) (after : List ℕ) : Type 0 where
   pub is : r ≡ record {
     position = record { place = o.state.place; steps = at.steps + o.steps };
-    ended = Ended.Ran o.end o.steps;
+    ended = Ok (record { end = o.end; steps = o.steps });
   }
   pub counts : Counts capacities after o.state.registers
 
 -- The call: a run on lengths, or where there is none nothing changes
-abbrev pub CountsTo : Bool → List ℕ → List ℕ → Position → Outcome W.State → Counted → List ℕ → Type 0
-CountsTo true capacities lengths at o r after = (s : Run) × (r ≡ Ran s) × RanAs capacities at o s after
-CountsTo false capacities lengths at o r after = (r ≡ Other) × (after ≡ lengths)
+abbrev pub CountsTo : Bool → List ℕ → List ℕ → Position → Outcome W.State → Option Run → List ℕ → Type 0
+CountsTo true capacities lengths at o r after = (s : Run) × (r ≡ Some s) × RanAs capacities at o s after
+CountsTo false capacities lengths at o r after = (r ≡ None) × (after ≡ lengths)

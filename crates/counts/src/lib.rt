@@ -14,13 +14,6 @@ pub use countable::no_hash;
 use memory::{Position, Run};
 use underway::{BIAS, entry, ran, strayed};
 
-// A run on lengths; or the table, capacities and lengths are not such that there is one.
-#[derive(Drop)]
-pub enum Counted {
-    Ran(Run),
-    Other,
-}
-
 // A run of a table that can be run so.
 fn run_countable(
     capacities: &[u16],
@@ -51,7 +44,8 @@ fn run_countable(
     ran(at.steps, s)
 }
 
-// Runs a table of numbers on the lengths of registers that hold 1s alone, where no instruction appends # and the machine can do them all.
+// Runs a table of numbers on the lengths of registers that hold 1s alone, where no instruction appends # and the machine can do them all;
+// `None` where the table, capacities and lengths are not such that there is a run on lengths.
 pub fn run(
     capacities: &[u16],
     lengths: &mut [u16],
@@ -59,7 +53,7 @@ pub fn run(
     kinds: &[u8],
     operands: &[u32],
     budget: u32,
-) -> Counted
+) -> Option<Run>
     ensures { CountsTo
         (is_countable capacities.now lengths.old kinds.now operands.now)
         capacities.now lengths.old at
@@ -67,7 +61,7 @@ pub fn run(
         result lengths.new }
 {
     if !is_countable(capacities, &*lengths, kinds, operands) {
-        return Counted::Other;
+        return None;
     }
-    Counted::Ran(run_countable(capacities, lengths, at, kinds, operands, budget))
+    Some(run_countable(capacities, lengths, at, kinds, operands, budget))
 }

@@ -8,11 +8,11 @@ use drains::drain;
 use underway::BIAS;
 use word::Instruction;
 
-// Where some steps lead, and how many they are; or the step would be full.
-#[derive(Drop)]
-pub enum Stride {
-    To(usize, u32),
-    Full,
+// Where some steps lead, and how many they are.
+#[derive(Clone, Copy)]
+pub struct Stride {
+    pub there: usize,
+    pub steps: u32,
 }
 
 // Takes a 1 from a register, counted from 0. It says whether there was one.
@@ -28,14 +28,6 @@ fn take_one(lengths: &mut [u16], r: usize) -> bool
     true
 }
 
-// One more, below a capacity.
-fn one_more(n: u16, capacity: u16) -> u16
-    requires { n < capacity }
-    ensures { result ≡ n + 1 }
-{
-    n + 1
-}
-
 // Appends a 1 to a register, counted from 0. It says whether there was room.
 fn add_one(lengths: &mut [u16], capacities: &[u16], r: usize) -> bool
     requires { (r < length lengths.old) × (length lengths.old ≡ length capacities.now) }
@@ -44,7 +36,7 @@ fn add_one(lengths: &mut [u16], capacities: &[u16], r: usize) -> bool
     let n = lengths[r];
     let capacity = capacities[r];
     if n < capacity {
-        lengths[r] = one_more(n, capacity);
+        lengths[r] = n + 1;
         true
     } else {
         false
@@ -56,22 +48,22 @@ fn after_cases(took: bool, here: usize) -> Stride
     requires { here < 2 ^ 31 }
     ensures { result ≡ after_cases took here }
 {
-    if took {
-        Stride::To(here + 2, 1)
-    } else {
-        Stride::To(here + 1, 1)
-    }
+    let there = if took { here + 2 } else { here + 1 };
+    Stride { there, steps: 1 }
 }
 
-// The step after an append.
-fn after_append(room: bool, here: usize) -> Stride
+// The step after an append, or `None` where there was no room: it is full.
+fn after_append(room: bool, here: usize) -> Option<Stride>
     requires { here < 2 ^ 31 }
     ensures { result ≡ after_append room here }
 {
     if room {
-        Stride::To(here + 1, 1)
+        Some(Stride {
+            there: here + 1,
+            steps: 1,
+        })
     } else {
-        Stride::Full
+        None
     }
 }
 
@@ -90,7 +82,7 @@ fn back(
         result lengths.new }
 {
     if there <= BIAS {
-        return Stride::To(there, 1);
+        return Stride { there, steps: 1 };
     }
     let turns = drain(
         lengths,
@@ -101,11 +93,14 @@ fn back(
         n,
         left - 1,
     );
-    Stride::To(there, turns + 1)
+    Stride {
+        there,
+        steps: turns + 1,
+    }
 }
 
-// One step from a place, and the turns that begin where it leads, of so many steps in all. "The number of # in an instruction, 1 to 5,
-// decides its effect"; none is an append of #.
+// One step from a place, and the turns that begin where it leads, of so many steps in all; `None` where the step would be full. "The number
+// of # in an instruction, 1 to 5, decides its effect"; none is an append of #.
 pub fn advance(
     capacities: &[u16],
     lengths: &mut [u16],
@@ -113,7 +108,7 @@ pub fn advance(
     operands: &[u32],
     here: usize,
     left: u32,
-) -> Stride
+) -> Option<Stride>
     requires { Countable capacities.now lengths.old kinds.now operands.now
         × (bias < here) × (here ≤ bias + length kinds.now) × (1 ≤ left) }
     ensures { Strode capacities.now lengths.old kinds.now operands.now here left
@@ -123,8 +118,11 @@ pub fn advance(
     let kind = kinds[i];
     let operand = operands[i] as usize;
     match kind {
-        Instruction::FORWARD => Stride::To(here + operand, 1),
-        Instruction::BACKWARD => back(
+        Instruction::FORWARD => Some(Stride {
+            there: here + operand,
+            steps: 1,
+        }),
+        Instruction::BACKWARD => Some(back(
             capacities,
             lengths,
             kinds,
@@ -132,8 +130,8 @@ pub fn advance(
             here - operand,
             operand,
             left,
-        ),
-        Instruction::CASES => after_cases(take_one(lengths, operand - 1), here),
+        )),
+        Instruction::CASES => Some(after_cases(take_one(lengths, operand - 1), here)),
         _ => after_append(add_one(lengths, capacities, operand - 1), here),
     }
 }

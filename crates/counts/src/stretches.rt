@@ -17,13 +17,6 @@ use underway::{BIAS, Stop, allowance, end_at, goes_on};
 // How many steps the first stretch has, where the run goes on so long.
 const FIRST: u32 = 1024;
 
-// Where a stretch led, and how many steps it has; or where its next step would be full, and after how many.
-#[derive(Drop)]
-pub enum Reached {
-    To(usize, u32),
-    Full(usize, u32),
-}
-
 // Whether a run stands where it stood, with the same lengths.
 fn is_back(here: usize, mark: usize, lengths: &[u16], marked: &[u16]) -> bool
     ensures { result ≡ (eqb here mark && same lengths.now marked.now) }
@@ -35,19 +28,17 @@ fn is_back(here: usize, mark: usize, lengths: &[u16], marked: &[u16]) -> bool
 }
 
 // A register, counted from 0, whose length is not the one laid aside: the one that was seen so, if it still is. As many as there are where
-// none is.
+// none is. Nothing is promised of it: by what it finds a stretch only ends earlier or later.
 fn unlike(lengths: &[u16], aside: &[u16], seen: usize) -> usize {
     if capacity_at(lengths, seen) != capacity_at(aside, seen) {
         return seen;
     }
-    let mut i: usize = 0;
-    while i < lengths.len() {
-        if wide(lengths[i]) != capacity_at(aside, i) {
+    for (i, length) in lengths.iter().enumerate() {
+        if wide(*length) != capacity_at(aside, i) {
             return i;
         }
-        i += 1;
     }
-    i
+    lengths.len()
 }
 
 // After how many steps a stretch ends that begins after k, with so many left: it is about as long as all before it, so that each way round
@@ -56,14 +47,11 @@ fn until(k: u32, left: u32) -> u32
     requires { 1 ≤ left }
     ensures { (1 ≤ result) × (result ≤ left) }
 {
-    if k < FIRST {
-        return if left < FIRST { left } else { FIRST };
-    }
-    if left < k { left } else { k }
+    left.min(k.max(FIRST))
 }
 
 // Steps from the place of an instruction, no more than are left: until the run does not go on, enough are done, or it is back where it
-// began, with the lengths that were laid aside there.
+// began, with the lengths that were laid aside there. `Err` has where the next step would be full, and after how many.
 fn stretch(
     capacities: &[u16],
     lengths: &mut [u16],
@@ -73,7 +61,7 @@ fn stretch(
     left: u32,
     enough: u32,
     aside: &[u16],
-) -> Reached
+) -> Result<Stride, Stride>
     requires { Countable capacities.now lengths.old kinds.now operands.now
         × (bias < from) × (from ≤ bias + length kinds.now) × (1 ≤ enough) × (enough ≤ left) }
     ensures { Stretched capacities.now lengths.old kinds.now operands.now from left
@@ -86,20 +74,29 @@ fn stretch(
     let mut seen: usize = 0;
     while goes_on(here, last, k, enough) {
         match advance(capacities, lengths, kinds, operands, here, left - k) {
-            Stride::To(there, n) => {
-                here = there;
-                k += n;
+            Some(stride) => {
+                here = stride.there;
+                k += stride.steps;
                 if here == from {
                     seen = unlike(&*lengths, aside, seen);
                     if seen == count {
-                        return Reached::To(here, k);
+                        return Ok(Stride {
+                            there: here,
+                            steps: k,
+                        });
                     }
                 }
             }
-            Stride::Full => return Reached::Full(here, k),
+            None => return Err(Stride {
+                there: here,
+                steps: k,
+            }),
         }
     }
-    Reached::To(here, k)
+    Ok(Stride {
+        there: here,
+        steps: k,
+    })
 }
 
 // A stretch; and where it leads back to where it began, as many whole rounds more as there are steps left for.
@@ -111,7 +108,7 @@ fn around(
     from: usize,
     left: u32,
     enough: u32,
-) -> Reached
+) -> Result<Stride, Stride>
     requires { Countable capacities.now lengths.old kinds.now operands.now
         × (bias < from) × (from ≤ bias + length kinds.now) × (1 ≤ enough) × (enough ≤ left) }
     ensures { Stretched capacities.now lengths.old kinds.now operands.now from left
@@ -120,7 +117,7 @@ fn around(
     let count = lengths.len();
     let cells = laid_aside(&*lengths);
     let aside = &cells[..count];
-    match stretch(
+    let mut s = stretch(
         capacities,
         &mut *lengths,
         kinds,
@@ -129,15 +126,11 @@ fn around(
         left,
         enough,
         aside,
-    ) {
-        Reached::To(there, n) => {
-            if is_back(there, from, &*lengths, aside) {
-                return Reached::To(there, n + whole_rounds(n, left - n));
-            }
-            Reached::To(there, n)
-        }
-        Reached::Full(there, n) => Reached::Full(there, n),
+    )?;
+    if is_back(s.there, from, &*lengths, aside) {
+        s.steps += whole_rounds(s.steps, left - s.steps);
     }
+    Ok(s)
 }
 
 // The steps of a run, from a place of the instructions or right behind them.
@@ -169,15 +162,15 @@ pub fn run_lengths(
             left,
             until(k, left),
         ) {
-            Reached::To(there, n) => {
-                here = there;
-                k += n;
+            Ok(s) => {
+                here = s.there;
+                k += s.steps;
             }
-            Reached::Full(there, n) => {
+            Err(s) => {
                 return Stop {
                     end: End::Full,
-                    steps: k + n,
-                    here: there,
+                    steps: k + s.steps,
+                    here: s.there,
                 };
             }
         }

@@ -10,7 +10,7 @@ ghost use Rattle.memory.specs.Calls.{memory, handed, table_called};
 use memory::{Position, Run};
 use precedence::turned_down;
 use records::Gathered;
-use word::{Instruction, Read};
+use word::Instruction;
 
 // Runs a table that was gathered into numbers: rules 10, then 11, 13, 14 and 15 as for tables.
 fn run_gathered(
@@ -27,7 +27,7 @@ fn run_gathered(
 {
     let answer = g.answer;
     match answer {
-        Read::Done(count) => {
+        Ok(count) => {
             let kinds = g.kinds;
             let operands = g.operands;
             engine::run_numbers(
@@ -40,7 +40,7 @@ fn run_gathered(
                 budget,
             )
         }
-        Read::Refused(r) => turned_down(capacities, store, lengths, at, r),
+        Err(r) => turned_down(capacities, store, lengths, at, r),
     }
 }
 

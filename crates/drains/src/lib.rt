@@ -8,7 +8,7 @@ ghost use Rattle.theory.specs.Machines.{capacity_of};
 ghost use Rattle.drains.specs.Drains.{loops_back, targets, room_in, with_room, turns_of, poured, turns, lengths_then};
 ghost use Rattle.drains.specs.Pours.{Fits, Filled};
 
-use layout::{capacity_at, wide};
+use layout::capacity_at;
 use word::Instruction;
 
 fn narrow(x: usize) -> u16
@@ -58,13 +58,11 @@ fn with_room(lengths: &[u16], capacities: &[u16], appends: &[u32], from: u32, mo
         (length appends.now) appends.now most }
 {
     let mut m = most;
-    let mut j: usize = 0;
-    while j < appends.len() {
-        let room = room_in(lengths, capacities, from, appends[j]);
+    for register in appends {
+        let room = room_in(lengths, capacities, from, *register);
         if room < m * appends.len() {
             m = room / appends.len();
         }
-        j += 1;
     }
     m
 }
@@ -83,12 +81,10 @@ fn pour(lengths: &mut [u16], appends: &[u32], m: usize)
     requires { Fits appends.now m lengths.old }
     ensures { Filled appends.now m lengths.old lengths.new }
 {
-    let mut j: usize = 0;
-    while j < appends.len() {
-        let r = index(appends[j]);
-        let n = wide(lengths[r]);
+    for register in appends {
+        let r = index(*register);
+        let n = usize::from(lengths[r]);
         lengths[r] = narrow(n + m);
-        j += 1;
     }
 }
 
@@ -134,7 +130,7 @@ fn turned(
         return 0;
     }
     let a = index(from);
-    let held = wide(lengths[a]);
+    let held = usize::from(lengths[a]);
     lengths[a] = narrow(held - m);
     pour(lengths, appends, m);
     (m * n) as u32
@@ -144,12 +140,10 @@ fn turned(
 fn all_append(kinds: &[u8]) -> bool
     ensures { result ≡ all (eqb 1) kinds.now }
 {
-    let mut j: usize = 0;
-    while j < kinds.len() {
-        if kinds[j] != Instruction::APPEND_ONE {
+    for kind in kinds {
+        if *kind != Instruction::APPEND_ONE {
             return false;
         }
-        j += 1;
     }
     true
 }

@@ -1,4 +1,5 @@
 -- A table judged by rules 11, 13 and 14: what comes of it, rule by rule.
+use Rattle.std.specs.Prelude.{Result, Ok, Err}
 use mathlib.Core.Path.{◌≡◌, refl, sym, ◌∙◌}
 use mathlib.Core.Bool.{true, false}
 use mathlib.Core.Option.{Option, none, some}
@@ -10,8 +11,6 @@ use Rattle.theory.specs.Word.{Entry}
 use Rattle.theory.specs.Machines.{Memory, count, is_memory}
 use Rattle.theory.specs.TurnedDown.{answer, read_table, read_table_for, table_fault, rule_10, rule_15}
 use Rattle.theory.specs.declared.Refusal.{Refusal}
-use Rattle.word.specs.declared.answers.Read.{Read}
-use Rattle.word.specs.declared.answers.Read.TheVariants as R
 use Rattle.word.specs.Answers.{read_answer}
 use Rattle.memory.specs.declared.answers.Position.{Position}
 use Rattle.memory.specs.Calls.{called, turned_down, after_10, table_called}
@@ -21,22 +20,22 @@ use Rattle.engine.proofs.Accepted.{accepted_search}
 use Rattle.engine.proofs.Answered.{table_for}
 
 -- What an answer by rules 11, 13 and 14 says of the table
-module _ (t : List Entry) (r : Read) (is : r ≡ read_answer (read_table t)) where
+module _ (t : List Entry) (r : Result ℕ Refusal) (is : r ≡ read_answer (read_table t)) where
   answers : r ≡ read_answer (answer (table_fault t) t)
   unfolding read_table
   answers = is
 
-  pub got_refused : (x : Refusal) → r ≡ R.Refused x → table_fault t ≡ some x
+  pub got_refused : (x : Refusal) → r ≡ Err x → table_fault t ≡ some x
   got_refused x e = go (table_fault t) (sym e ∙ answers)
     where
-      go : (f : Option Refusal) → R.Refused x ≡ read_answer (answer f t) → f ≡ some x
+      go : (f : Option Refusal) → Err x ≡ read_answer (answer f t) → f ≡ some x
       go none z = let y : ◌≡◌ {A = ℕ} 0 1 = cc in absurd (omega arith)
       go (some x') z = cc
 
-  pub got_done : (n : ℕ) → r ≡ R.Done n → (table_fault t ≡ none) × (n ≡ length t)
+  pub got_done : (n : ℕ) → r ≡ Ok n → (table_fault t ≡ none) × (n ≡ length t)
   got_done n e = go (table_fault t) (sym e ∙ answers)
     where
-      go : (f : Option Refusal) → R.Done n ≡ read_answer (answer f t) → (f ≡ none) × (n ≡ length t)
+      go : (f : Option Refusal) → Ok n ≡ read_answer (answer f t) → (f ≡ none) × (n ≡ length t)
       go none z = (refl, cc)
       go (some x) z = let y : ◌≡◌ {A = ℕ} 0 1 = cc in absurd (omega arith)
 

@@ -7,7 +7,6 @@ ghost use Rattle.memory.specs.Calls.{memory, handed, table_called};
 
 use memory::{Position, Run};
 use precedence::turned_down;
-use word::Read;
 
 // Runs a table of numbers on a machine: rules 10, then 11, 13, 14 and 15, whose places are entries. A number that is missing counts as 0.
 pub fn run_numbers(
@@ -24,7 +23,7 @@ pub fn run_numbers(
         (zipped kinds.now operands.now) }
 {
     match table::check(kinds, operands) {
-        Read::Done(_) => runs::run(capacities, store, lengths, at, kinds, operands, budget),
-        Read::Refused(r) => turned_down(capacities, store, lengths, at, r),
+        Ok(_) => runs::run(capacities, store, lengths, at, kinds, operands, budget),
+        Err(r) => turned_down(capacities, store, lengths, at, r),
     }
 }

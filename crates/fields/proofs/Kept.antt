@@ -1,7 +1,6 @@
 -- The numbers of a line as they are kept: a list that grows in 32 cells, each number under a bound.
 use mathlib.Core.Path.{◌≡◌, refl, sym, ap, ◌∙◌}
 use mathlib.Core.Bool.{Bool, true, false, cond, ◌&&◌}
-use mathlib.Core.Option.{some}
 use mathlib.Core.List.{List, [], ◌∷◌, ◌++◌, map}
 use Prim.Native.Nat.{ℕ, zero, suc, ◌+◌, ◌≤◌, min}
 use native.Mathlib.Omega.{arith}
@@ -13,7 +12,7 @@ use Rattle.theory.proofs.Faults.{and_first, and_second}
 use Rattle.columns.specs.Columns.{padded}
 use Rattle.columns.proofs.Padded.{cells_same, cells-set}
 use Rattle.fields.specs.declared.Line.{Line}
-use Rattle.fields.specs.Fields.{most, under, put_in, line_of, with_number}
+use Rattle.fields.specs.Fields.{most, under, put_in, kept, with_number}
 
 -- A list in 32 cells
 
@@ -54,18 +53,17 @@ kept_under n bound h = go (ltb n bound) refl
     go true e = rw (kept_below n bound h, e) (omega (arith, ltb-true n bound e))
     go false e = rw (kept_below n bound h, e)
 
-all_more : (f : ℕ → Bool) (l : List ℕ) (x : ℕ) → cond (f x) (all f l) false ≡ all f (l ++ (x ∷ []))
+all_more : (f : ℕ → Bool) (l : List ℕ) (x : ℕ) → (all f l && f x) ≡ all f (l ++ (x ∷ []))
 all_more f [] x = go (f x)
   where
-    go : (b : Bool) → cond b true false ≡ (b && true)
+    go : (b : Bool) → b ≡ (b && true)
     go true = refl
     go false = refl
-all_more f (y ∷ l) x = step (f y) (f x) (all_more f l x)
+all_more f (y ∷ l) x = step (f y) (all_more f l x)
   where
-    step : (a b : Bool) → cond b (all f l) false ≡ all f (l ++ (x ∷ [])) → cond b (a && all f l) false ≡ (a && all f (l ++ (x ∷ [])))
-    step true b h = h
-    step false true h = refl
-    step false false h = refl
+    step : (a : Bool) → (all f l && f x) ≡ all f (l ++ (x ∷ [])) → ((a && all f l) && f x) ≡ (a && all f (l ++ (x ∷ [])))
+    step true h = h
+    step false h = refl
 
 map_more : (f : ℕ → ℕ) (l : List ℕ) (x : ℕ) → map f (l ++ (x ∷ [])) ≡ map f l ++ (f x ∷ [])
 map_more f [] x = refl
@@ -79,13 +77,12 @@ length_more : (l : List ℕ) (x : ℕ) → length l + 1 ≡ length (l ++ (x ∷ 
 length_more l x = sym (length-append l (x ∷ []))
 
 line_same : {a b : List ℕ} {m n : ℕ} {c d : Bool} → a ≡ b → m ≡ n → c ≡ d
-    → ◌≡◌ {A = Line} (record { numbers = a; count = m; shaped = true; below = c })
-    (record { numbers = b; count = n; shaped = true; below = d })
+    → ◌≡◌ {A = Line} (record { numbers = a; count = m; below = c }) (record { numbers = b; count = n; below = d })
 line_same e f g = rw (e, f, g)
 
 pub line-more : (bound : ℕ) (ns : List ℕ) (n : ℕ) → bound ≤ most
-    → with_number bound (min n most) (line_of bound (some ns)) ≡ line_of bound (some (ns ++ (n ∷ [])))
-unfolding line_of with_number
+    → with_number bound (min n most) (kept bound ns) ≡ kept bound (ns ++ (n ∷ []))
+unfolding with_number
 line-more bound ns n h = line_same numbers (length_more ns n) below
   where
     ms : List ℕ
@@ -97,7 +94,7 @@ line-more bound ns n h = line_same numbers (length_more ns n) below
     numbers : put_in (padded ms) (length ns) (under bound (min n most)) ≡ padded (map (under bound) (ns ++ (n ∷ [])))
     numbers = ap {B = List ℕ} (put_in (padded ms) (length ns)) (kept_under n bound h) ∙ pushed
 
-    below : cond (ltb (min n most) bound) (all (λ m. ltb m bound) ns) false ≡ all (λ m. ltb m bound) (ns ++ (n ∷ []))
+    below : (all (λ m. ltb m bound) ns && ltb (min n most) bound) ≡ all (λ m. ltb m bound) (ns ++ (n ∷ []))
     below = rw (kept_below n bound h) (all_more (λ m. ltb m bound) ns n)
 
 -- Numbers that are all below the bound are kept as they are

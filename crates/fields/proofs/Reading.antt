@@ -1,6 +1,7 @@
 -- A reader's way along a line, from field to field: what it has read, and what is left.
+use Rattle.std.specs.Prelude.{None, Some}
 use mathlib.Core.Path.{◌≡◌, refl, ap₂, ◌∙◌}
-use mathlib.Core.Bool.{Bool, true, false}
+use mathlib.Core.Bool.{Bool}
 use mathlib.Core.Option.{Option, none, some}
 use mathlib.Core.List.{List, [], ◌∷◌, ◌++◌, map, append_assoc, append-nil}
 use Prim.Native.Nat.{ℕ, ◌+◌, ◌-◌, ◌≤◌, ◌<◌, min}
@@ -8,20 +9,19 @@ use native.Mathlib.Omega.{arith}
 use lib.ListN.{length, take, drop, length-append}
 use Rattle.theory.specs.Basics.{every}
 use Rattle.theory.specs.Text.{Bytes, blank, fields}
-use Rattle.fields.specs.declared.Spelled.TheVariants.{Nothing, Number}
 use Rattle.fields.specs.declared.Line.{Line}
-use Rattle.fields.specs.Fields.{most, spelled, field_of, numbers_of, no_numbers, line_of, with_number}
+use Rattle.fields.specs.Fields.{most, spelled, field_of, numbers_of, kept as kept_line, line_of, with_number}
 use Rattle.text.specs.Runs.{before}
 use Rattle.fields.proofs.Splits.{before-within, fields-from, fields_none, fields-whole, fields_end, fields-next}
 use Rattle.fields.proofs.Numbers.{every_more, every_fails}
 use Rattle.fields.proofs.Kept.{line-more}
 
 -- What a field spells, if it spells a number
-number_spelled : (o : Option ℕ) (n : ℕ) → Number n ≡ spelled o → (m : ℕ) × (o ≡ some m) × (n ≡ min m most)
+number_spelled : (o : Option ℕ) (n : ℕ) → Some n ≡ spelled o → (m : ℕ) × (o ≡ some m) × (n ≡ min m most)
 number_spelled none n e = let never : ◌≡◌ {A = ℕ} 0 1 = cc in absurd (omega arith)
 number_spelled (some m) n e = (m, refl, cc)
 
-nothing_spelled : (o : Option ℕ) → Nothing ≡ spelled o → o ≡ none
+nothing_spelled : (o : Option ℕ) → None ≡ spelled o → o ≡ none
 nothing_spelled none e = refl
 nothing_spelled (some m) e = cc
 
@@ -31,33 +31,31 @@ pub record Reading (t : Bytes) (named : Bool) (bound : ℕ) (line : Line) (at : 
   pub numbers : List ℕ
   pub so_far : every (map (field_of named) read) ≡ some numbers
   pub left : fields t ≡ read ++ fields-from at t
-  pub kept : line ≡ line_of bound (some numbers)
+  pub kept : line ≡ kept_line bound numbers
   pub reached : at ≤ length t + 1
   pub fewer : length numbers ≤ at
 
 module _ (t : Bytes) (named : Bool) (bound : ℕ) where
-  reading_start : (at : ℕ) → at ≤ length t + 1 → fields t ≡ fields-from at t → Reading t named bound (no_numbers true) at
-  unfolding line_of
+  reading_start : (at : ℕ) → at ≤ length t + 1 → fields t ≡ fields-from at t → Reading t named bound (kept_line bound []) at
   reading_start at h e =
       record { read = []; numbers = []; so_far = refl; left = e; kept = refl; reached = h; fewer = omega arith }
 
   -- The empty line has no fields, any other has its first at its first byte
-  pub reading_none : (at : ℕ) → length t ≡ 0 → at ≡ 1 → Reading t named bound (no_numbers true) at
+  pub reading_none : (at : ℕ) → length t ≡ 0 → at ≡ 1 → Reading t named bound (kept_line bound []) at
   reading_none at e a = reading_start at (omega arith) (rw a (fields_none t e))
 
-  pub reading_whole : (at : ℕ) → (length t ≡ 0 → ⊥) → at ≡ 0 → Reading t named bound (no_numbers true) at
+  pub reading_whole : (at : ℕ) → (length t ≡ 0 → ⊥) → at ≡ 0 → Reading t named bound (kept_line bound []) at
   reading_whole at e a = reading_start at (omega arith) (rw a (fields-whole t e))
 
   module _ (line : Line) (at : ℕ) (r : Reading t named bound line at) where
     pub reading_count : line.count ≤ at
-    unfolding line_of
     reading_count = rw r.kept r.fewer
 
-    pub reading_end : length t < at → line ≡ line_of bound (numbers_of named t)
-    unfolding numbers_of
+    pub reading_end : length t < at → Some line ≡ line_of bound (numbers_of named t)
+    unfolding numbers_of line_of
     reading_end h =
         let whole : fields t ≡ r.read = r.left ∙ rw (fields_end t at h) (append-nil r.read) in
-        rw (whole, r.so_far) r.kept
+        rw (whole, r.so_far, r.kept)
 
     module _ (h : at ≤ length t) (end : ℕ) (e : end ≡ at + before blank (drop at t)) where
       f : Bytes
@@ -69,14 +67,14 @@ module _ (t : Bytes) (named : Bool) (bound : ℕ) where
           let size : end - at ≡ before blank (drop at t) = omega arith in
           rw (size, e) (fields-next t at h)
 
-      pub reading_fails : Nothing ≡ spelled (field_of named (take (end - at) (drop at t)))
-          → no_numbers false ≡ line_of bound (numbers_of named t)
+      pub reading_fails : None ≡ spelled (field_of named (take (end - at) (drop at t)))
+          → None ≡ line_of bound (numbers_of named t)
       unfolding f numbers_of line_of
       reading_fails q =
           let fails : field_of named f ≡ none = nothing_spelled (field_of named f) q in
           rw (r.left, next, every_fails (field_of named) r.read (fields-from (end + 1) t) f fails)
 
-      pub reading_next : bound ≤ most → (n : ℕ) → Number n ≡ spelled (field_of named (take (end - at) (drop at t)))
+      pub reading_next : bound ≤ most → (n : ℕ) → Some n ≡ spelled (field_of named (take (end - at) (drop at t)))
           → Reading t named bound (with_number bound n line) (end + 1)
       unfolding f
       reading_next b n q =

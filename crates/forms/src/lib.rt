@@ -16,11 +16,9 @@ fn clears_size(variables: u8) -> Length
 {
     let mut instructions: u16 = 0;
     let mut symbols: usize = 0;
-    let mut r: u8 = 1;
-    while r < variables {
-        r += 1;
+    for register in 2..=variables {
         instructions += 3;
-        symbols += r as usize + 16;
+        symbols += usize::from(register) + 16;
     }
     Length {
         instructions,
@@ -33,10 +31,8 @@ fn put_clears(out: &mut [u8], place: usize, variables: u8) -> usize
     ensures { Written (clears variables) place out.old out.new result }
 {
     let mut here = place;
-    let mut r: u8 = 1;
-    while r < variables {
-        r += 1;
-        here = emit::clearing(&mut *out, here, r as usize);
+    for register in 2..=variables {
+        here = emit::clearing(&mut *out, here, usize::from(register));
     }
     here
 }

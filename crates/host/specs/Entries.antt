@@ -15,9 +15,7 @@ use Rattle.states.specs.Numbers.{run_numbers, LentAfter}
 use Rattle.memory.specs.Calls.{position, answered}
 use Rattle.memory.specs.declared.answers.Position.{Position}
 use Rattle.report.specs.Answers.{report_into}
-use Rattle.report.specs.declared.Reported.{Reported}
-use Rattle.report.specs.declared.Reported.TheVariants as Reported
-use Rattle.packing.specs.Packed.{pack, refusal, packed, commands, sizes, listing_sizes, count, ending}
+use Rattle.packing.specs.Packed.{packed, commands, sizes, listing_sizes, count, ending}
 
 -- Under a setting, a text read into a lent list of three numbers a command: the variables and the commands
 pub record ReadsProgram (σ : Setting) (text : Bytes) (list : List ℕ) (r : ℕ) (list' : List ℕ) : Type 0 where
@@ -75,8 +73,3 @@ pub record WritesWord (table : List Entry) (word : Bytes) (r : ℕ) (word' : Byt
 pub record Reports (text sheet : Bytes) (capacities : List ℕ) (out : Bytes) (r : ℕ) (out' : Bytes) : Type 0 where
   pub result : r ≡ packed count (report_into out capacities text sheet)
   pub out_after : out' ≡ lent_after out (report_into out capacities text sheet)
-
--- The number of what crate report hands back
-abbrev pub report_made : Reported → ℕ
-report_made (Reported.Done bytes) = pack 0 0 bytes
-report_made (Reported.Refused r) = refusal r

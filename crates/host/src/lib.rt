@@ -9,11 +9,12 @@ ghost use Rattle.word.specs.Answers.{zipped};
 ghost use Rattle.packing.specs.Packed.{setting_of, form_of, packed, symbols};
 ghost use Rattle.memory.specs.Calls.{memory, value_of};
 ghost use Rattle.host.specs.Entries.{ReadsProgram, WritesProgram, Translates, TranslatesListing, RunsSource};
-ghost use Rattle.host.specs.Entries.{ReadsWord, WritesWord, RunsOn, stands_at, Reports, report_made};
+ghost use Rattle.host.specs.Entries.{ReadsWord, WritesWord, RunsOn, stands_at, Reports};
 
-use machine_packing::{source_ended, value_read, word_ended, word_read, word_written};
+use machine_packing::{run_ended, value_read};
 use memory::Position;
-use program_packing::{program_read, program_written, translated};
+use packing::counted;
+use program_packing::{program_read, translated};
 
 // The version of these entries.
 #[unsafe(no_mangle)]
@@ -36,7 +37,7 @@ pub extern "C" fn mudzkvopi_read_program(setting: u32, text: &[u8], list: &mut [
 pub extern "C" fn mudzkvopi_write_program(setting: u32, list: &[u8], text: &mut [u8]) -> u64
     ensures { WritesProgram (setting_of setting) list.now text.old result text.new }
 {
-    program_written(program::write(packing::setting(setting), list, &mut *text))
+    counted(program::write(packing::setting(setting), list, &mut *text))
 }
 
 // A program handed in as text, translated in a form into a lent word: rules 1 to 8 under a setting, then 19.
@@ -83,7 +84,7 @@ pub extern "C" fn mudzkvopi_run_source(
     ensures { RunsSource (read_text_under (setting_of setting) text.now) state.old budget
         result state.new }
 {
-    source_ended(states::run_text(packing::setting(setting), text, &mut *state, budget))
+    run_ended(states::run_text(packing::setting(setting), text, &mut *state, budget))
 }
 
 // A program handed in as a list, run so: rules 3 to 8 under a setting, then 9.
@@ -97,7 +98,7 @@ pub extern "C" fn mudzkvopi_run_source_list(
     ensures { RunsSource (read_list_under (setting_of setting) list.now) state.old budget
         result state.new }
 {
-    source_ended(states::run_list(packing::setting(setting), list, &mut *state, budget))
+    run_ended(states::run_list(packing::setting(setting), list, &mut *state, budget))
 }
 
 // A word read into kinds and operands: rules 11 to 14, then 19.
@@ -106,7 +107,7 @@ pub extern "C" fn mudzkvopi_read_word(word: &[u8], kinds: &mut [u8], operands: &
     ensures { ReadsWord word.now kinds.old operands.old
         result kinds.new operands.new }
 {
-    word_read(word::read(word, &mut *kinds, &mut *operands))
+    counted(word::read(word, &mut *kinds, &mut *operands))
 }
 
 // Kinds and operands written as a word: rules 11, 13 and 14 as for tables, then 19.
@@ -114,7 +115,7 @@ pub extern "C" fn mudzkvopi_read_word(word: &[u8], kinds: &mut [u8], operands: &
 pub extern "C" fn mudzkvopi_write_word(kinds: &[u8], operands: &[u32], word: &mut [u8]) -> u64
     ensures { WritesWord (zipped kinds.now operands.now) word.old result word.new }
 {
-    word_written(table::write(kinds, operands, &mut *word))
+    counted(table::write(kinds, operands, &mut *word))
 }
 
 // A word run on a lent machine, of as many registers as capacities, from a lent place and count of steps: rule 10, then 11 to 15.
@@ -137,11 +138,9 @@ pub extern "C" fn mudzkvopi_run_word(
         steps: *steps,
     };
     let run = machine::run_word(capacities, &mut *store, &mut *lengths, at, word, budget);
-    let there = run.position.place;
-    let ended = run.ended;
-    *place = there;
+    *place = run.position.place;
     *steps = run.position.steps;
-    word_ended(ended)
+    run_ended(run.ended)
 }
 
 // Kinds and operands run so: rule 10, then 11, 13, 14 and 15 as for tables.
@@ -174,11 +173,9 @@ pub extern "C" fn mudzkvopi_run_table(
         operands,
         budget,
     );
-    let there = ran.position.place;
-    let ended = ran.ended;
-    *place = there;
+    *place = ran.position.place;
     *steps = ran.position.steps;
-    word_ended(ended)
+    run_ended(ran.ended)
 }
 
 // The value that a lent machine's registers have: rule 10.
@@ -187,16 +184,6 @@ pub extern "C" fn mudzkvopi_value(capacities: &[u16], store: &[u8], lengths: &[u
     ensures { result ≡ packed symbols (value_of (memory capacities.now store.now lengths.now)) }
 {
     value_read(memory::value(capacities, store, lengths))
-}
-
-// A report, by its bytes.
-fn report_made(made: report::Reported) -> u64
-    ensures { result ≡ report_made made }
-{
-    match made {
-        report::Reported::Done(bytes) => packing::pack(0, 0, bytes),
-        report::Reported::Refused(r) => packing::refused(r),
-    }
 }
 
 // The run tool's text of a program and a sheet, on registers of the capacities lent: 19 alone. A program, capacities or a sheet that are
@@ -210,5 +197,5 @@ pub extern "C" fn mudzkvopi_report_on(
 ) -> u64
     ensures { Reports text.now sheet.now capacities.now out.old result out.new }
 {
-    report_made(report::report_on(text, sheet, capacities, &mut *out))
+    counted(report::report_on(text, sheet, capacities, &mut *out))
 }

@@ -1,4 +1,4 @@
-// What a translation answers, and the one writer of instructions (document 02, request 4): each is written straight into the part of the
+// The size of a word, and the one writer of instructions (document 02, request 4): each is written straight into the part of the
 // output that begins at its place.
 #![tactic(auto)]
 
@@ -8,23 +8,15 @@ ghost use Rattle.instruction.specs.Instructions.{text, Spelt};
 
 use byte_runs::write_runs;
 use output::onward;
-use theory::Refusal;
 
-// The size of a word: its symbols and its instructions.
-#[derive(Drop)]
+// The size of a word, which is what a translation answers: its symbols and its instructions.
+#[derive(Clone, Copy)]
 pub struct Size {
     pub symbols: usize,
     pub instructions: usize,
 }
 
-// A program or a listing is translated into a word of a size, or refused by the first rule that applies.
-#[derive(Drop)]
-pub enum Translated {
-    Done(Size),
-    Refused(Refusal),
-}
-
-// The number of # of an instruction, by its kind.
+// The number of # of an instruction, by its kind. Numbers and no enum: an entry of any table is written so, whatever its kind.
 pub const APPEND: usize = 1;
 
 pub const FORWARD: usize = 3;

@@ -1,4 +1,5 @@
 -- The label in a buffer that has room for every word: rule 19 does not come, so that a refusal is one of the text's.
+use Rattle.std.specs.Prelude.{Result, Ok, Err}
 use mathlib.Core.Path.{◌≡◌, refl, sym, ap, ◌∙◌}
 use mathlib.Core.List.{List, [], ◌∷◌, ◌++◌}
 use Prim.Native.Nat.{ℕ, ◌≤◌}
@@ -20,7 +21,6 @@ use Rattle.output.proofs.Puts.{put_then, sets-front}
 use Rattle.tidy.specs.declared.Form.TheVariants.{Plain}
 use Rattle.translation.specs.Answers.{size_in, size_answer, translated, output}
 use Rattle.instruction.specs.declared.Size.{Size}
-use Rattle.instruction.specs.declared.Translated.TheVariants as T
 use Rattle.label_tool.specs.Label.{label}
 
 module _ (lent t : Bytes) (size : length lent ≡ 600001) where
@@ -39,7 +39,7 @@ module _ (lent t : Bytes) (size : length lent ≡ 600001) where
   turned_down r e = rw e
 
   -- The buffer is as it was, and the refusal that is put is the text's
-  pub refused_put : (r : Refusal) (out after : Bytes) (k : ℕ) → T.Refused r ≡ translated Plain lent (read_text t)
+  pub refused_put : (r : Refusal) (out after : Bytes) (k : ℕ) → Err r ≡ translated Plain lent (read_text t)
       → out ≡ output Plain lent (read_text t) → Few 50 (refusal_line r) 0 out after k
       → Put (label t) 0 lent after k × (k ≤ 600001)
   unfolding label lent_after refusal_line
@@ -47,26 +47,26 @@ module _ (lent t : Bytes) (size : length lent ≡ 600001) where
     where
       go : (a : Answer (List Command)) → read_text t ≡ a → Put (label t) 0 lent after k × (k ≤ 600001)
       go (refused s) e =
-          let same : T.Refused r ≡ T.Refused s = h ∙ ap (size_answer Plain) (turned_down s e) in
+          let same : ◌≡◌ {A = Result Size Refusal} (Err r) (Err s) = h ∙ ap (size_answer Plain) (turned_down s e) in
           let is : s ≡ r = cc in
           let kept : out ≡ lent = writes ∙ ap {B = Bytes} (λ b. lent_after lent (mapped word_text b)) (turned_down s e) in
           (rw (e, is, ← kept) few.put, omega (arith, few.few))
       go (done p) e =
-          let other : T.Refused r ≡ T.Done (size_in Plain p) = h ∙ ap (size_answer Plain) (translates p e) in
+          let other : ◌≡◌ {A = Result Size Refusal} (Err r) (Ok (size_in Plain p)) = h ∙ ap (size_answer Plain) (translates p e) in
           absurd (let z : ◌≡◌ {A = ℕ} 0 1 = cc in omega arith)
 
   -- The word is in the buffer, and LF is put behind it: all of it has its place
-  pub word-put : (n : Size) (out after : Bytes) (k : ℕ) → T.Done n ≡ translated Plain lent (read_text t)
+  pub word-put : (n : Size) (out after : Bytes) (k : ℕ) → Ok n ≡ translated Plain lent (read_text t)
       → out ≡ output Plain lent (read_text t) → Put (LF ∷ []) n.symbols out after k → Put (label t) 0 lent after k × (k ≤ 600001)
   unfolding label lent_after
   word-put n out after k h writes put = go (read_text t) refl
     where
       go : (a : Answer (List Command)) → read_text t ≡ a → Put (label t) 0 lent after k × (k ≤ 600001)
       go (refused s) e =
-          let other : T.Done n ≡ T.Refused s = h ∙ ap (size_answer Plain) (turned_down s e) in
+          let other : ◌≡◌ {A = Result Size Refusal} (Ok n) (Err s) = h ∙ ap (size_answer Plain) (turned_down s e) in
           absurd (let z : ◌≡◌ {A = ℕ} 0 1 = cc in omega arith)
       go (done p) e =
-          let same : T.Done n ≡ T.Done (size_in Plain p) = h ∙ ap (size_answer Plain) (translates p e) in
+          let same : ◌≡◌ {A = Result Size Refusal} (Ok n) (Ok (size_in Plain p)) = h ∙ ap (size_answer Plain) (translates p e) in
           let known : n ≡ size_in Plain p = cc in
           let symbols : n.symbols ≡ length (word_text p) = ap (λ m. m.symbols) known in
           let fits : length (word_text p) ≤ length lent = omega (arith, word_fits p e) in

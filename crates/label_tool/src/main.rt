@@ -11,7 +11,6 @@ use printing::put_refusal;
 use std::io;
 use theory::Setting;
 use tidy::Form;
-use translation::Translated;
 
 // What is printed for a text, at the start of an output that has room for the longest word and LF.
 fn put_label(text: &[u8], out: &mut [u8]) -> usize
@@ -20,8 +19,8 @@ fn put_label(text: &[u8], out: &mut [u8]) -> usize
     ensures upper_bound { result ≤ 600001 }
 {
     match translation::translate_text(Setting::Any, Form::Plain, text, &mut *out) {
-        Translated::Done(size) => put_byte(&mut *out, size.symbols, b'\n'),
-        Translated::Refused(r) => put_refusal(&mut *out, r),
+        Ok(size) => put_byte(&mut *out, size.symbols, b'\n'),
+        Err(r) => put_refusal(&mut *out, r),
     }
 }
 

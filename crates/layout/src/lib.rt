@@ -14,21 +14,20 @@ pub const CAPACITY: usize = 1024;
 // Where a place begins, for as many registers, and where the last one ends.
 pub const OFFSETS: usize = REGISTERS + 1;
 
-// A capacity or a length, which are lent as 16 bits.
+// A capacity or a length, which are lent as 16 bits. A name for `usize::from`, which stays: its promise and its must-fail edits do.
 pub fn wide(x: u16) -> usize
     ensures { result ≡ x }
 {
-    x as usize
+    usize::from(x)
 }
 
 // The capacity of register i + 1. One that the list lacks has none.
 pub fn capacity_at(capacities: &[u16], i: usize) -> usize
     ensures { (result ≡ get_or capacities.now i 0) × (result < 65536) }
 {
-    if i < capacities.len() {
-        wide(capacities[i])
-    } else {
-        0
+    match capacities.get(i) {
+        Some(capacity) => wide(*capacity),
+        None => 0,
     }
 }
 
@@ -38,11 +37,9 @@ pub fn offsets(capacities: &[u16]) -> [usize; OFFSETS]
 {
     let mut places = [0usize; OFFSETS];
     let mut end: usize = 0;
-    let mut i: usize = 0;
-    while i < REGISTERS {
+    for i in 0..REGISTERS {
         end += capacity_at(capacities, i);
-        i += 1;
-        places[i] = end;
+        places[i + 1] = end;
     }
     places
 }
@@ -52,12 +49,10 @@ pub fn all_are(part: &[u8], byte: u8) -> bool
     ensures { result ≡ all (eqb byte) part.now }
 {
     let mut ok = true;
-    let mut i: usize = 0;
-    while i < part.len() {
-        if part[i] != byte {
+    for x in part {
+        if *x != byte {
             ok = false;
         }
-        i += 1;
     }
     ok
 }

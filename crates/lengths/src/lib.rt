@@ -10,7 +10,7 @@ ghost use Rattle.lengths.specs.Lengths.{length_of};
 use command::Numbers;
 
 // So many instructions, of so many symbols.
-#[derive(Drop)]
+#[derive(Clone, Copy)]
 pub struct Length {
     pub instructions: u16,
     pub symbols: usize,

@@ -1,4 +1,5 @@
 -- Rules 3 to 8 along a list of numbers: what the checker knows before each command, and what it answers at the end.
+use Rattle.std.specs.Prelude.{Result, Ok, Err}
 use mathlib.Core.Path.{◌≡◌, refl, sym, ap, ◌∙◌}
 use mathlib.Core.Option.{Option, none, some}
 use mathlib.Core.List.{List, [], ◌∷◌}
@@ -16,11 +17,8 @@ use Rattle.theory.specs.declared.Refusal.{Refusal}
 use Rattle.theory.specs.declared.Setting.{Setting}
 use Rattle.theory.proofs.Settings.{line_outside}
 use Rattle.nesting.specs.declared.Opening.{Opening}
-use Rattle.nesting.specs.declared.Judged.{Judged}
-use Rattle.nesting.specs.declared.Judged.TheVariants.{Passes, Fault}
 use Rattle.nesting.specs.Nesting.{pairs, judged}
 use Rattle.nesting.proofs.Commands.{Known, known}
-use Rattle.list.specs.declared.Checked.TheVariants.{Accepted, Refused}
 use Rattle.list.specs.Answers.{checked, at_end}
 use Rattle.list.proofs.Stack.{nothing, innermost, was_fault, has_passed, passed_known, Follows, follows}
 
@@ -47,7 +45,7 @@ listed_many (k ∷ i ∷ j ∷ l) = let h = listed_many l in (omega arith, omega
 
 -- Rule 3, and the answer where it does not apply
 
-pub too_many : (σ : Setting) (l : List ℕ) → 1536 < length l → Refused (record { number = 3; place = 513 }) ≡ checked (read_list_under σ l)
+pub too_many : (σ : Setting) (l : List ℕ) → 1536 < length l → Err (record { number = 3; place = 513 }) ≡ checked (read_list_under σ l)
 unfolding read_list_under commands program_fault_under rule_3
 too_many σ l h = rw (lt-leb (length (listed l)) 512 (omega (arith, (listed_many l).0)))
 
@@ -56,13 +54,13 @@ module _ (σ : Setting) (l : List ℕ) (short : length l ≤ 1536) where
   unfolding program_fault_under rule_3
   few = rw (le-leb (length (listed l)) 512 (omega (arith, (listed_many l).1)))
 
-  refused_by : (r : Refusal) → lines_fault_under σ 1 [] (listed l) ≡ some r → Refused r ≡ checked (read_list_under σ l)
+  refused_by : (r : Refusal) → lines_fault_under σ 1 [] (listed l) ≡ some r → Err r ≡ checked (read_list_under σ l)
   unfolding read_list_under commands
   refused_by r e = rw (few, e)
 
   accepted_as : (n K : ℕ) → lines_fault_under σ 1 [] (listed l) ≡ none → n ≡ length (present (listed l))
       → K ≡ variables (present (listed l))
-      → Accepted (record { lines = n; variables = K }) ≡ checked (read_list_under σ l)
+      → Ok (record { lines = n; variables = K }) ≡ checked (read_list_under σ l)
   unfolding read_list_under commands
   accepted_as n K e f g = rw (few, e, f, g)
 
@@ -97,15 +95,15 @@ module _ (σ : Setting) (l : List ℕ) (n K d : ℕ) (os : List Opening) (h : So
     split : (c : Command) → here ≡ some c → present (listed (drop (3 * n) l)) ≡ c ∷ present (listed (drop (3 * (n + 1)) l))
     split c e = rw (left, e)
 
-    module _ {v : Judged} (e : v ≡ judged σ (n + 1) (pairs d (get_or os d nothing)) here) where
-      pub faulty : {r : Refusal} → v ≡ Fault r → length l ≤ 1536 → Refused r ≡ checked (read_list_under σ l)
+    module _ {v : Result ℕ Refusal} (e : v ≡ judged σ (n + 1) (pairs d (get_or os d nothing)) here) where
+      pub faulty : {r : Refusal} → v ≡ Err r → length l ≤ 1536 → Err r ≡ checked (read_list_under σ l)
       unfolding lines_fault_under
       faulty f short = refused_by σ l short _ (verdict ∙ rw (was_fault σ (n + 1) d os here e f))
 
       abbrev put : List Opening
       put = set os (d + 1) (record { line = n + 1; kind = get_or l (3 * n) 0; index = get_or l (3 * n + 1) 0 })
 
-      pub onward : {d' : ℕ} → v ≡ Passes d' → (K' : ℕ) → K' ≡ max (max K (suc (get_or l (3 * n + 1) 0))) (suc (get_or l (3 * n + 2) 0))
+      pub onward : {d' : ℕ} → v ≡ Ok d' → (K' : ℕ) → K' ≡ max (max K (suc (get_or l (3 * n + 1) 0))) (suc (get_or l (3 * n + 2) 0))
           → SoFar σ l (n + 1) K' d' put
       unfolding lines_fault_under
       onward {d'} p K' g =
@@ -126,7 +124,7 @@ module _ (σ : Setting) (l : List ℕ) (n K d : ℕ) (os : List Opening) (h : So
 
   -- The end: a last command cut short, or rule 8
   pub cut : 3 * n < length l → length l ≤ 3 * n + 2 → length l ≤ 1536
-      → Refused (record { number = 4; place = n + 1 }) ≡ checked (read_list_under σ l)
+      → Err (record { number = 4; place = n + 1 }) ≡ checked (read_list_under σ l)
   unfolding lines_fault_under listed
   cut more less short =
       refused_by σ l short _ (sym h.rest ∙ go (drop (3 * n) l) (omega (arith, length-drop (3 * n) l))

@@ -1,5 +1,6 @@
 -- The openings that the checker has put in their places, as the definitions' list of open pairs: the verdict under them, and the stack
 -- after a command that passed.
+use Rattle.std.specs.Prelude.{Result, Ok, Err}
 use mathlib.Core.Path.{◌≡◌, refl, sym, ap, ◌∙◌}
 use mathlib.Core.Logic.{inl, inr}
 use mathlib.Core.Bool.{Bool, true, false, false≢true}
@@ -17,8 +18,6 @@ use Rattle.theory.specs.declared.Refusal.{Refusal}
 use Rattle.theory.specs.declared.Setting.{Setting}
 use Rattle.theory.proofs.Nesting.{few_open, one_open}
 use Rattle.nesting.specs.declared.Opening.{Opening}
-use Rattle.nesting.specs.declared.Judged.{Judged}
-use Rattle.nesting.specs.declared.Judged.TheVariants.{Passes, Fault}
 use Rattle.nesting.specs.Nesting.{kind_of, open_of, pairs, is_known, verdict, judged}
 use Rattle.nesting.proofs.Commands.{known_below, unknown, opening, closing, same-verdict}
 use Rattle.list.specs.declared.Program.{Program}
@@ -71,20 +70,20 @@ ended-under p (suc m) l = refl
 
 -- The verdict read back
 
-read_fault : (n : ℕ) (o : Option Refusal) {r : Refusal} → Fault r ≡ verdict n o → o ≡ some r
+read_fault : (n : ℕ) (o : Option Refusal) {r : Refusal} → Err r ≡ verdict n o → o ≡ some r
 read_fault n none e = cc
 read_fault n (some q) e = cc
 
-read-passes : (n : ℕ) (o : Option Refusal) {m : ℕ} → Passes m ≡ verdict n o → (o ≡ none) × (m ≡ n)
+read-passes : (n : ℕ) (o : Option Refusal) {m : ℕ} → Ok m ≡ verdict n o → (o ≡ none) × (m ≡ n)
 read-passes n none e = (refl, cc)
 read-passes n (some q) e = let z : ◌≡◌ {A = ℕ} 0 1 = cc in absurd (omega arith)
 
-module _ (σ : Setting) (n count : ℕ) (l : List Opening) (c : Option Command) {v : Judged}
+module _ (σ : Setting) (n count : ℕ) (l : List Opening) (c : Option Command) {v : Result ℕ Refusal}
     (e : v ≡ judged σ n (pairs count (get_or l count nothing)) c) where
-  pub was_fault : {r : Refusal} → v ≡ Fault r → line_fault_under σ n (innermost count l) c ≡ some r
+  pub was_fault : {r : Refusal} → v ≡ Err r → line_fault_under σ n (innermost count l) c ≡ some r
   was_fault f = read_fault _ _ (sym f ∙ e ∙ judged-under σ n count l c)
 
-  pub has_passed : {m : ℕ} → v ≡ Passes m
+  pub has_passed : {m : ℕ} → v ≡ Ok m
       → (line_fault_under σ n (innermost count l) c ≡ none) × (m ≡ length (open_past n (innermost count l) c))
   has_passed f = read-passes _ _ (sym f ∙ e ∙ judged-under σ n count l c)
 

@@ -7,11 +7,11 @@ ghost use Rattle.theory.specs.TurnedDown.{read_list_under};
 ghost use Rattle.nesting.specs.Nesting.{pairs};
 ghost use Rattle.list.specs.Answers.{checked, at_end};
 
-use nesting::{Judged, Opening, judge};
-use theory::{Refusal, Setting};
+use nesting::{Opening, judge};
+use theory::{Refusal, Setting, refused};
 
 // What is known of an accepted program: its number of commands, and K, the highest index named plus 1.
-#[derive(Drop)]
+#[derive(Clone, Copy)]
 pub struct Program {
     pub lines: usize,
     pub variables: usize,
@@ -26,46 +26,31 @@ impl Program {
     pub const NUMBERS: usize = 1536;
 }
 
-// A program handed in is accepted, or refused by the first rule that applies.
-#[derive(Drop)]
-pub enum Checked {
-    Accepted(Program),
-    Refused(Refusal),
-}
-
 // The places of the openings, in the order of their lines from number 1 on: number 0 for none, those of the pairs that may be open
 // together, and one more for the line that comes next.
 const PLACES: usize = Program::OPEN + 2;
-
-// The answer where a rule applies: its number, and the place that it names.
-fn refused(number: u32, place: usize) -> Checked
-    ensures { result ≡ Checked.Refused (record { number = number; place = place }) }
-{
-    Checked::Refused(Refusal { number, place })
-}
 
 // K after one more index: the highest so far plus 1, or this one plus 1.
 fn named(variables: usize, index: u8) -> usize
     ensures { result ≡ max variables (suc index) }
 {
-    let above = index as usize + 1;
-    if variables < above { above } else { variables }
+    variables.max(usize::from(index) + 1)
 }
 
 // Rule 8, where so many pairs are left open and the innermost is `last`.
-fn ended(count: usize, last: Opening, program: Program) -> Checked
+fn ended(count: usize, last: Opening, program: Program) -> Result<Program, Refusal>
     ensures { result ≡ at_end program (pairs count last) }
 {
     if count == 0 {
-        Checked::Accepted(program)
+        Ok(program)
     } else {
         refused(8, last.line)
     }
 }
 
-// Rules 3 to 8 under a setting, the commands of a list taken as lines. Every command is put where an opening would stand; it counts where
+// Rules 3 to 8 under a setting, the commands of a list taken as lines: what is known of the program, or the first rule that applies. Every command is put where an opening would stand; it counts where
 // it is one.
-pub fn check_list(setting: Setting, list: &[u8]) -> Checked
+pub fn check_list(setting: Setting, list: &[u8]) -> Result<Program, Refusal>
     ensures { result ≡ checked (read_list_under setting list.now) }
 {
     if Program::NUMBERS < list.len() {
@@ -78,23 +63,16 @@ pub fn check_list(setting: Setting, list: &[u8]) -> Checked
     };
     let mut openings = [none; PLACES];
     let mut count = 0;
-    let mut lines = 0;
     let mut variables = 0;
-    while 3 * lines + 2 < list.len() {
-        let kind = list[3 * lines];
-        let index = list[3 * lines + 1];
-        let source = list[3 * lines + 2];
+    let lines = list.len() / 3;
+    for i in 0..lines {
+        let kind = list[3 * i];
+        let index = list[3 * i + 1];
+        let source = list[3 * i + 2];
         let last = openings[count];
-        lines += 1;
-        openings[count + 1] = Opening {
-            line: lines,
-            kind,
-            index,
-        };
-        match judge(setting, count, last, lines, kind, index, source) {
-            Judged::Fault(r) => return Checked::Refused(r),
-            Judged::Passes(open) => count = open,
-        }
+        let line = i + 1;
+        openings[count + 1] = Opening { line, kind, index };
+        count = judge(setting, count, last, line, kind, index, source)?;
         variables = named(named(variables, index), source);
     }
     if 3 * lines < list.len() {

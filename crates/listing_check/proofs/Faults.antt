@@ -1,4 +1,5 @@
 -- Rule 3 of a list, and rules 4 and 22 along its lines: what is known before each line, and the answer.
+use Rattle.std.specs.Prelude.{Result, Err, Ok}
 use mathlib.Core.Path.{◌≡◌, refl, sym, ◌∙◌}
 use mathlib.Core.Bool.{Bool, true, false, ◌&&◌}
 use mathlib.Core.Option.{Option, none, some}
@@ -16,8 +17,6 @@ use Rattle.theory.specs.TurnedDown.{unless}
 use Rattle.theory.specs.declared.Refusal.{Refusal}
 use Rattle.listing.specs.Refused.{most_lines, line_fault, rule_3, lines_fault, listing_fault}
 use Rattle.listing_numbers.specs.declared.Numbers.{Numbers}
-use Rattle.listing_check.specs.declared.Judged.{Judged}
-use Rattle.listing_check.specs.declared.Judged.TheVariants.{Passes, Fault}
 use Rattle.listing_check.specs.Lined.{line_of, numbers_at, lined, judged, Whole}
 use Rattle.listing_check.proofs.Lines.{lined-length, lined-at}
 
@@ -36,17 +35,17 @@ target_more lines t h = rw (le-leb 1 t (omega arith)) (go (leb (t - 1) lines) re
 -- A line, by its kind
 
 module _ (n : Numbers) (lines line : ℕ) where
-  pub print_passes_1 : n.kind ≡ 1 → Passes ≡ judged (line_fault lines line (line_of n))
+  pub print_passes_1 : n.kind ≡ 1 → Ok tt ≡ judged (line_fault lines line (line_of n))
   unfolding line_of
   print_passes_1 k = rw (eq-eqb n.kind 1 k)
 
   module _ (k1 : n.kind ≡ 1 → ⊥) where
-    pub print_passes_2 : n.kind ≡ 2 → Passes ≡ judged (line_fault lines line (line_of n))
+    pub print_passes_2 : n.kind ≡ 2 → Ok tt ≡ judged (line_fault lines line (line_of n))
     unfolding line_of
     print_passes_2 k = rw (ne_eqb n.kind 1 k1, eq-eqb n.kind 2 k)
 
     module _ (k2 : n.kind ≡ 2 → ⊥) where
-      pub no_line : (n.kind ≡ 5 → ⊥) → Fault (record { number = 4; place = line }) ≡ judged (line_fault lines line (line_of n))
+      pub no_line : (n.kind ≡ 5 → ⊥) → Err (record { number = 4; place = line }) ≡ judged (line_fault lines line (line_of n))
       unfolding line_of
       no_line k5 = rw (ne_eqb n.kind 1 k1, ne_eqb n.kind 2 k2, ne_eqb n.kind 5 k5)
 
@@ -69,16 +68,16 @@ module _ (list : List ℕ) (lines i : ℕ) (w : Whole list lines)
         let within : i < length (lined list) = omega (arith, lined-length list lines w) in
         sym so_far ∙ rw (drop-cons (lined list) i none within, lined-at list i none within, add-one i)
 
-    module _ {v : Judged} (e : v ≡ judged here) where
-      pub faulty : {r : Refusal} → v ≡ Fault r → Fault r ≡ judged (lines_fault lines 1 (lined list))
+    module _ {v : Result (Unit {0}) Refusal} (e : v ≡ judged here) where
+      pub faulty : {r : Refusal} → v ≡ Err r → Err r ≡ judged (lines_fault lines 1 (lined list))
       faulty {r} f = rw verdict (go here e)
         where
           go : (o : Option Refusal) → v ≡ judged o
-              → Fault r ≡ judged (or_else o (lines_fault lines (suc (i + 1)) (drop (i + 1) (lined list))))
+              → Err r ≡ judged (or_else o (lines_fault lines (suc (i + 1)) (drop (i + 1) (lined list))))
           go none g = cc
           go (some q) g = sym f ∙ g
 
-      pub onward : v ≡ Passes → lines_fault lines (suc (i + 1)) (drop (i + 1) (lined list)) ≡ lines_fault lines 1 (lined list)
+      pub onward : v ≡ Ok tt → lines_fault lines (suc (i + 1)) (drop (i + 1) (lined list)) ≡ lines_fault lines 1 (lined list)
       onward f = rw verdict (go here e)
         where
           go : (o : Option Refusal) → v ≡ judged o
@@ -87,7 +86,7 @@ module _ (list : List ℕ) (lines i : ℕ) (w : Whole list lines)
           go none g = refl
           go (some q) g = cc
 
-  pub all_pass : lines ≤ i → Passes ≡ judged (lines_fault lines 1 (lined list))
+  pub all_pass : lines ≤ i → Ok tt ≡ judged (lines_fault lines 1 (lined list))
   unfolding lines_fault
   all_pass h =
       rw (← so_far, drop_of_length-le (lined list) {i = i} (omega (arith, lined-length list lines w)))
@@ -95,7 +94,7 @@ module _ (list : List ℕ) (lines i : ℕ) (w : Whole list lines)
 -- Rule 3
 
 module _ (list : List ℕ) (lines : ℕ) (w : Whole list lines) where
-  pub too_many : most_lines < lines → Fault (record { number = 3; place = 257 }) ≡ judged (listing_fault (lined list))
+  pub too_many : most_lines < lines → Err (record { number = 3; place = 257 }) ≡ judged (listing_fault (lined list))
   unfolding listing_fault rule_3
   too_many h = rw (lined-length list lines w, lt-leb lines most_lines h)
 

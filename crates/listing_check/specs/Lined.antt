@@ -1,5 +1,5 @@
 -- The lines of a listing, from their numbers, and what a check of them hands back.
-use Rattle.std.specs.Prelude.{cond, List, [], ◌∷◌, ℕ, zero, suc, ◌+◌, ◌*◌, ◌≤◌, ◌<◌, eqb, length}
+use Rattle.std.specs.Prelude.{cond, List, [], ◌∷◌, ℕ, zero, suc, ◌+◌, ◌*◌, ◌≤◌, ◌<◌, eqb, length, Result, Err, Ok}
 use Rattle.std.proofs.Math.Option.{Option, none, some}
 use Rattle.theory.specs.Basics.{given, present}
 use Rattle.theory.specs.Word.{one, hash}
@@ -8,8 +8,6 @@ use Rattle.theory.specs.declared.Refusal.{Refusal}
 use Rattle.listing.specs.Listing.{Line, print, scan}
 use Rattle.listing.specs.Refused.{listing_fault}
 use Rattle.listing_numbers.specs.declared.Numbers.{Numbers}
-use Rattle.listing_check.specs.declared.Judged.{Judged}
-use Rattle.listing_check.specs.declared.Judged.TheVariants as J
 
 -- The line of four numbers
 unfoldable pub line_of : Numbers → Option Line
@@ -40,9 +38,9 @@ lined (k ∷ n ∷ e ∷ f ∷ l) = line_of (record { kind = k; register = n; on
 abbrev pub lines_of : List ℕ → List Line
 lines_of l = present (lined l)
 
-abbrev pub judged : Option Refusal → Judged
-judged none = J.Passes
-judged (some r) = J.Fault r
+abbrev pub judged : Option Refusal → Result (Unit {0}) Refusal
+judged none = Ok tt
+judged (some r) = Err r
 
 -- A list read: 3, then 4 and 22
 abbrev pub read : List ℕ → Answer (List Line)

@@ -7,23 +7,10 @@ ghost use Rattle.listing.specs.Refused.{line_fault, lines_fault, listing_fault};
 ghost use Rattle.listing_check.specs.Lined.{numbers_at, line_of, lined, judged, Whole};
 
 use listing_numbers::{Numbers, PRINT_HASH, PRINT_ONE, SCAN};
-use theory::Refusal;
+use theory::{Refusal, refused};
 
 // "at most 256 lines"
 pub const LINES: usize = 256;
-
-// Lines pass, or the first faulty one is refused.
-#[derive(Drop)]
-pub enum Judged {
-    Passes,
-    Fault(Refusal),
-}
-
-fn fault(number: u32, place: usize) -> Judged
-    ensures { result ≡ Judged.Fault (record { number = number; place = place }) }
-{
-    Judged::Fault(Refusal { number, place })
-}
 
 // The numbers of line `at`, from 0; those of no line where there is none.
 pub fn numbers_at(list: &[u16], at: usize) -> Numbers
@@ -53,56 +40,51 @@ fn is_target(target: u16, lines: usize) -> bool
     if target == 0 {
         return false;
     }
-    target as usize - 1 <= lines
+    usize::from(target) - 1 <= lines
 }
 
 // Line `line` of so many: rule 4, then 22.
-fn judge(n: Numbers, lines: usize, line: usize) -> Judged
+fn judge(n: Numbers, lines: usize, line: usize) -> Result<(), Refusal>
     ensures { result ≡ judged (line_fault lines line (line_of n)) }
 {
     let kind = n.kind;
     if kind == PRINT_ONE {
-        return Judged::Passes;
+        return Ok(());
     }
     if kind == PRINT_HASH {
-        return Judged::Passes;
+        return Ok(());
     }
     if kind != SCAN {
-        return fault(4, line);
+        return refused(4, line);
     }
     if !is_target(n.one, lines) {
-        return fault(22, line);
+        return refused(22, line);
     }
     if !is_target(n.hash, lines) {
-        return fault(22, line);
+        return refused(22, line);
     }
-    Judged::Passes
+    Ok(())
 }
 
 // So many lines, first faulty line first.
-fn check_lines(list: &[u16], lines: usize) -> Judged
+fn check_lines(list: &[u16], lines: usize) -> Result<(), Refusal>
     requires { Whole list.now lines }
     ensures { result ≡ judged (lines_fault lines 1 (lined list.now)) }
 {
-    let mut i: usize = 0;
-    while i < lines {
+    for i in 0..lines {
         let n = numbers_at(list, i);
-        i += 1;
-        match judge(n, lines, i) {
-            Judged::Fault(r) => return Judged::Fault(r),
-            Judged::Passes => {}
-        }
+        judge(n, lines, i + 1)?;
     }
-    Judged::Passes
+    Ok(())
 }
 
 // A listing as numbers: rule 3, then 4 and 22 line by line.
-pub fn check(list: &[u16]) -> Judged
+pub fn check(list: &[u16]) -> Result<(), Refusal>
     ensures { result ≡ judged (listing_fault (lined list.now)) }
 {
     let lines = list.len() / 4;
     if LINES < lines {
-        return fault(3, LINES + 1);
+        return refused(3, LINES + 1);
     }
     check_lines(list, lines)
 }

@@ -1,5 +1,5 @@
 -- Laws of what is read of a line: a numeral after a word, a register, targets.
-use mathlib.Core.Path.{◌≡◌, refl, sym, ap₂, ◌∙◌}
+use mathlib.Core.Path.{◌≡◌, refl, sym, ap, ap₂, ◌∙◌}
 use mathlib.Core.Bool.{Bool, true, false}
 use mathlib.Core.Option.{Option, none, some, none-ne-some}
 use mathlib.Core.List.{List, [], ◌∷◌, ◌++◌, append_assoc}
@@ -9,6 +9,8 @@ use lib.Dec.{leb}
 use borrow.Author.Tests.{leb-true, leb-false, le-leb, lt-leb}
 use lib.ListN.{length, drop, length-drop}
 use lib.Seq.{drop-drop}
+use Rattle.std.specs.Prelude as code
+use Rattle.std.specs.Prelude.{None, Some, MatchOption, option_map, unwrap_or}
 use Rattle.theory.specs.Limits.{most_registers}
 use Rattle.theory.specs.Basics.{given, or_else, and_then}
 use Rattle.theory.specs.Text.{Bytes, Found, bytes, following, same, numeral, decimal}
@@ -18,7 +20,6 @@ use Rattle.theory.proofs.Numerals.{found, numeral-spelled}
 use Rattle.theory.proofs.Spellings.{following_some}
 use Rattle.theory.proofs.GoodSource.{limited as register-limits}
 use Rattle.numerals.specs.declared.Number.{Number}
-use Rattle.numerals.specs.declared.Number.TheVariants.{To, No}
 use Rattle.numerals.specs.Numbers.{found_in}
 use Rattle.text.specs.Words.{is_some}
 use Rattle.text.proofs.Words.{after-not, after_is, none_left, some_left}
@@ -26,7 +27,7 @@ use Rattle.numerals.proofs.Found.{FoundTo, found_missing, found_there}
 use Rattle.listing.specs.Listing.{Line, print, scan, print_name, in_range, register_number, prints, scans, line}
 use Rattle.listing_numbers.specs.declared.Numbers.{Numbers}
 use Rattle.listing_numbers.specs.Numbers.{most_target, numbers}
-use Rattle.listing_numbers.specs.Lines.{in_order, after, Prints, with_targets}
+use Rattle.listing_numbers.specs.Lines.{in_order, numbers_if, after, IsPrint, Prints, with_targets}
 
 -- What is read of no line
 abbrev pub no_numbers : Numbers
@@ -59,11 +60,12 @@ module _ (s : Bytes) (at : ℕ) (w : Bytes) where
         append_assoc w (decimal f.value) f.rest ∙ rw (numeral-spelled u f h).whole (following_some w (drop at s) u g),
       )
 
-  pub number_there : {end number : ℕ} {v : Number} → v ≡ found_in (length s) most_target (after w (drop at s)) → v ≡ To end number
-      → NumberAt s at w end number
+  pub number_there : {x : Number} {v : code.Option Number} → v ≡ found_in (length s) most_target (after w (drop at s)) → v ≡ Some x
+      → NumberAt s at w x.end x.value
   number_there = found_there s at most_target (after w (drop at s)) written
 
-  pub number_missing : {v : Number} → v ≡ found_in (length s) most_target (after w (drop at s)) → v ≡ No → after w (drop at s) ≡ none
+  pub number_missing : {v : code.Option Number} → v ≡ found_in (length s) most_target (after w (drop at s)) → v ≡ None
+      → after w (drop at s) ≡ none
   number_missing = found_missing (length s) most_target (after w (drop at s))
 
 -- One reading after the other
@@ -123,54 +125,54 @@ module _ (kind : ℕ) (name s : Bytes) where
   unfolding prints
   print_read x e = rw e
 
-  no_print : ((x : Symbol) → name ≡ print_name x → prints x s ≡ none) → Prints kind name s no_numbers
+  no_print : ((x : Symbol) → name ≡ print_name x → prints x s ≡ none) → Prints kind name s None
   no_print e x p = rw (e x p.named)
 
-  pub print_no_number : after name s ≡ none → Prints kind name s no_numbers
+  pub print_no_number : after name s ≡ none → Prints kind name s None
   print_no_number e = no_print λ x f. print_read x f ∙ register_none s name (ended x) e
 
   module _ {end number : ℕ} (n : NumberAt s 0 name end number) where
-    pub print_no_register : is_limited most_registers number ≡ false → Prints kind name s no_numbers
+    pub print_no_register : is_limited most_registers number ≡ false → Prints kind name s None
     print_no_register e = no_print λ x f. print_read x f ∙ register_out s name (ended x) n e
 
     module _ (e : is_limited most_registers number ≡ true) where
-      pub print_more : end < length s → Prints kind name s no_numbers
+      pub print_more : end < length s → Prints kind name s None
       print_more h = no_print λ x f. print_read x f ∙ register_in s name (ended x) n e ∙ rw (some_left s end h)
 
-      pub print_whole : length s ≤ end → Prints kind name s (record { kind = kind; register = number; one = 0; hash = 0 })
+      pub print_whole : length s ≤ end → Prints kind name s (Some (record { kind = kind; register = number; one = 0; hash = 0 }))
       print_whole h x p =
           let is : prints x s ≡ some (print x number) =
           print_read x p.named ∙ register_in s name (ended x) n e ∙ rw (none_left s end h) in
-          rw is (sym (p.numbered number))
+          rw is (ap (λ (l : List ℕ). Some l) (sym (p.numbered number)))
 
 -- The targets of an `Scd`
 
 module _ (s : Bytes) (at register : ℕ) where
-  abbrev targeted : List ℕ
-  targeted = numbers (with_targets register (drop at s))
+  abbrev targeted : code.Option (List ℕ)
+  targeted = numbers_if (with_targets register (drop at s))
 
-  pub no_first_target : after (bytes " ") (drop at s) ≡ none → in_order no_numbers ≡ targeted
+  pub no_first_target : after (bytes " ") (drop at s) ≡ none → None ≡ targeted
   unfolding with_targets
   no_first_target e = rw e
 
   module _ {middle e : ℕ} (n : NumberAt s at (bytes " ") middle e) where
-    module _ {v : Number} (h : v ≡ found_in (length s) most_target (after (bytes " ") (drop middle s))) where
-      pub no_second_target : v ≡ No → in_order no_numbers ≡ targeted
+    module _ {v : code.Option Number} (h : v ≡ found_in (length s) most_target (after (bytes " ") (drop middle s))) where
+      pub no_second_target : v ≡ None → None ≡ targeted
       unfolding with_targets
       no_second_target k = rw (n.is, number_missing s middle (bytes " ") h k)
 
-      pub second_target : {end f : ℕ} → v ≡ To end f → NumberAt s middle (bytes " ") end f
+      pub second_target : {x : Number} → v ≡ Some x → NumberAt s middle (bytes " ") x.end x.value
       second_target = number_there s middle (bytes " ") h
 
     module _ {end f : ℕ} (m : NumberAt s middle (bytes " ") end f) where
-      pub targets-more : end < length s → in_order no_numbers ≡ targeted
+      pub targets-more : end < length s → None ≡ targeted
       unfolding with_targets
       targets-more h = rw (n.is, m.is, some_left s end h)
 
-      pub targets-whole : length s ≤ end → 5 ∷ register ∷ e ∷ f ∷ [] ≡ targeted
+      pub targets-whole : length s ≤ end → Some (5 ∷ register ∷ e ∷ f ∷ []) ≡ targeted
       unfolding with_targets
       targets-whole h =
-          rw (n.is, m.is, none_left s end h) (ap₂ {C = List ℕ} (λ a b. 5 ∷ register ∷ a ∷ b ∷ []) n.kept m.kept)
+          rw (n.is, m.is, none_left s end h) (ap₂ {C = code.Option (List ℕ)} (λ a b. Some (5 ∷ register ∷ a ∷ b ∷ [])) n.kept m.kept)
 
 -- An `Scd`
 
@@ -205,14 +207,14 @@ module _ (s : Bytes) where
   unfolding scans
   scan_read = refl
 
-  no_scan : scans s ≡ none → in_order no_numbers ≡ numbers (scans s)
+  no_scan : scans s ≡ none → None ≡ numbers_if (scans s)
   no_scan e = rw e
 
-  pub scan_no_number : after (bytes "Scd ") s ≡ none → in_order no_numbers ≡ numbers (scans s)
+  pub scan_no_number : after (bytes "Scd ") s ≡ none → None ≡ numbers_if (scans s)
   scan_no_number e = no_scan (scan_read ∙ register_none s (bytes "Scd ") scan_end e)
 
   module _ {end number : ℕ} (n : NumberAt s 0 (bytes "Scd ") end number) where
-    pub scan_no_register : is_limited most_registers number ≡ false → in_order no_numbers ≡ numbers (scans s)
+    pub scan_no_register : is_limited most_registers number ≡ false → None ≡ numbers_if (scans s)
     scan_no_register e = no_scan (scan_read ∙ register_out s (bytes "Scd ") scan_end n e)
 
     pub scan_targets : is_limited most_registers number ≡ true → with_targets number (drop end s) ≡ scans s
@@ -220,28 +222,43 @@ module _ (s : Bytes) where
 
 -- The spellings, one following the other
 
-numbers-first : (o p : Option Line) {r : Numbers} → in_order r ≡ numbers o → (r.kind ≡ 0 → ⊥) → in_order r ≡ numbers (or_else o p)
-numbers-first none p e n = absurd (n (cc))
-numbers-first (some c) p e n = e
+-- The first of two, where it is found, else the second
+numbers-next : (o p : Option Line) (v r : code.Option Numbers) (P : Type 0) → option_map in_order v ≡ numbers_if o
+    → (P → option_map in_order r ≡ numbers_if p) → MatchOption v P (λ x. r ≡ Some x) → option_map in_order r ≡ numbers_if (or_else o p)
+numbers-next none p None r P e f h = f h
+numbers-next none p (Some x) r P e f h = cc
+numbers-next (some l) p None r P e f h = cc
+numbers-next (some l) p (Some x) r P e f h = rw h e
 
-numbers-next : (o p : Option Line) {r : Numbers} → in_order r ≡ numbers o → r.kind ≡ 0 → numbers (or_else o p) ≡ numbers p
-numbers-next none p e z = refl
-numbers-next (some (print one n)) p {r} e z = let k : r.kind ≡ 1 = cc in absurd (omega arith)
-numbers-next (some (print hash n)) p {r} e z = let k : r.kind ≡ 2 = cc in absurd (omega arith)
-numbers-next (some (scan n e f)) p {r} h z = let k : r.kind ≡ 5 = cc in absurd (omega arith)
+numbers-last : (o : Option Line) (v : code.Option Numbers) → option_map in_order v ≡ numbers_if o
+    → in_order (unwrap_or v no_numbers) ≡ numbers o
+numbers-last none None e = refl
+numbers-last none (Some x) e = cc
+numbers-last (some l) None e = cc
+numbers-last (some l) (Some x) e = cc
 
-module _ (s : Bytes) {a : Numbers} (ea : in_order a ≡ numbers (prints one s)) where
-  pub numbers_one : (a.kind ≡ 0 → ⊥) → in_order a ≡ numbers (line s)
+one_by_one : (a b c : Option Line) → or_else (or_else a b) c ≡ or_else a (or_else b c)
+one_by_one none b c = refl
+one_by_one (some a) b c = refl
+
+-- The names and kinds of the two P lines
+is_one : IsPrint 1 (bytes "P1 ") one
+is_one = record { named = refl; numbered = λ n. refl }
+
+is_hash : IsPrint 2 (bytes "P# ") hash
+is_hash = record { named = refl; numbered = λ n. refl }
+
+abbrev printed : Bytes → Option Line
+printed s = or_else (prints one s) (prints hash s)
+
+module _ (s : Bytes) (v r : code.Option Numbers) (P : Type 0) where
+  pub numbers_printed : Prints 1 (bytes "P1 ") s v → (P → Prints 2 (bytes "P# ") s r) → MatchOption v P (λ x. r ≡ Some x)
+      → option_map in_order r ≡ numbers_if (printed s)
+  numbers_printed e f = numbers-next (prints one s) (prints hash s) v r P (e one is_one) (λ h. f h hash is_hash)
+
+  pub numbers_read : option_map in_order v ≡ numbers_if (printed s) → (P → option_map in_order r ≡ numbers_if (scans s))
+      → MatchOption v P (λ x. r ≡ Some x) → in_order (unwrap_or r no_numbers) ≡ numbers (line s)
   unfolding line
-  numbers_one n = numbers-first (prints one s) _ ea n
-
-  module _ (za : a.kind ≡ 0) {b : Numbers} (eb : in_order b ≡ numbers (prints hash s)) where
-    past_one : numbers (line s) ≡ numbers (or_else (prints hash s) (scans s))
-    unfolding line
-    past_one = numbers-next (prints one s) _ ea za
-
-    pub numbers_hash : (b.kind ≡ 0 → ⊥) → in_order b ≡ numbers (line s)
-    numbers_hash n = numbers-first (prints hash s) _ eb n ∙ sym past_one
-
-    pub numbers_scan : b.kind ≡ 0 → {c : Numbers} → in_order c ≡ numbers (scans s) → in_order c ≡ numbers (line s)
-    numbers_scan zb e = e ∙ sym (past_one ∙ numbers-next (prints hash s) _ eb zb)
+  numbers_read e f h =
+      numbers-last (or_else (printed s) (scans s)) r (numbers-next (printed s) (scans s) v r P e f h)
+      ∙ ap numbers (one_by_one (prints one s) (prints hash s) (scans s))

@@ -1,11 +1,10 @@
 -- Places of a listing's lines, entries put into a table of two lists, and what making a table hands back.
-use Rattle.std.specs.Prelude.{◌≡◌, cond, List, [], ◌∷◌, ℕ, suc, ◌+◌, ◌≤◌, eqb, length, get_or}
+use Rattle.theory.specs.declared.Refusal.{Refusal}
+use Rattle.std.specs.Prelude.{◌≡◌, cond, List, [], ◌∷◌, ℕ, suc, ◌+◌, ◌≤◌, eqb, length, get_or, Result, Ok, Err}
 use Rattle.std.proofs.Math.Option.{none}
 use Rattle.std.proofs.lemmas.List.Edits.{sets}
 use Rattle.theory.specs.Word.{Entry, forward, entry_of, table_of}
 use Rattle.theory.specs.TurnedDown.{Answer, done, refused}
-use Rattle.word.specs.declared.answers.Read.{Read}
-use Rattle.word.specs.declared.answers.Read.TheVariants as R
 use Rattle.word.specs.Answers.{kinds_of, operands_of}
 use Rattle.listing_numbers.specs.declared.Numbers.{Numbers}
 use Rattle.listing.specs.Listing.{Line, place, transfer, word}
@@ -42,9 +41,9 @@ pub record Tabled (t : List Entry) (at : ℕ) (kinds operands kinds' operands' :
   pub operands_put : operands' ≡ sets operands at (operands_of t)
 
 -- How many instructions the table of a listing's word has, or the first refusal
-abbrev pub counted : Answer (List Line) → Read
-counted (done l) = R.Done (length (word l))
-counted (refused r) = R.Refused r
+abbrev pub counted : Answer (List Line) → Result ℕ Refusal
+counted (done l) = Ok (length (word l))
+counted (refused r) = Err r
 
 -- The lists afterwards: with the numbers of the word's instructions at their front, as far as they have room, or as they were
 abbrev pub kinds_filled : List ℕ → Answer (List Line) → List ℕ
@@ -56,6 +55,6 @@ operands_filled operands (done l) = sets operands 0 (operands_of (table_of (word
 operands_filled operands (refused r) = operands
 
 -- What is handed back for a list of numbers, and the lent lists then
-abbrev pub Fills : List ℕ → (kinds operands : List ℕ) → Read → (kinds' operands' : List ℕ) → Type 0
+abbrev pub Fills : List ℕ → (kinds operands : List ℕ) → Result ℕ Refusal → (kinds' operands' : List ℕ) → Type 0
 Fills list kinds operands r kinds' operands' =
     (r ≡ counted (read list)) × (kinds' ≡ kinds_filled kinds (read list)) × (operands' ≡ operands_filled operands (read list))

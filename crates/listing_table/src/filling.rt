@@ -18,30 +18,22 @@ fn transfer(from: u16, to: u16) -> Instruction
     if from < to {
         Instruction {
             kind: Instruction::FORWARD,
-            operand: (to - from) as u32,
+            operand: u32::from(to - from),
         }
     } else {
         Instruction {
             kind: Instruction::BACKWARD,
-            operand: (from - to) as u32,
+            operand: u32::from(from - to),
         }
     }
 }
 
 // A number of a list, where it has that place.
-fn put_kind(kinds: &mut [u8], at: usize, kind: u8)
-    ensures { kinds.new ≡ set kinds.old at kind }
+fn put_number<T: Copy>(numbers: &mut [T], at: usize, number: T)
+    ensures { numbers.new ≡ set numbers.old at number }
 {
-    if at < kinds.len() {
-        kinds[at] = kind;
-    }
-}
-
-fn put_operand(operands: &mut [u32], at: usize, operand: u32)
-    ensures { operands.new ≡ set operands.old at operand }
-{
-    if at < operands.len() {
-        operands[at] = operand;
+    if at < numbers.len() {
+        numbers[at] = number;
     }
 }
 
@@ -50,8 +42,8 @@ fn put(kinds: &mut [u8], operands: &mut [u32], at: usize, i: Instruction)
     ensures { Tabled (record-entry i ∷ []) at kinds.old operands.old kinds.new
         operands.new }
 {
-    put_kind(kinds, at, i.kind);
-    put_operand(operands, at, i.operand);
+    put_number(kinds, at, i.kind);
+    put_number(operands, at, i.operand);
 }
 
 // What follows the cases of a line: where to go on empty, for 1 and for #.
@@ -75,10 +67,10 @@ fn put_line(kinds: &mut [u8], operands: &mut [u32], place: u16, n: Numbers, one:
     ensures { Tabled (line_entries n place one hash) (place - 1) kinds.old operands.old
         kinds.new operands.new }
 {
-    let at = place as usize - 1;
+    let at = usize::from(place) - 1;
     let first = Instruction {
         kind: n.kind as u8,
-        operand: n.register as u32,
+        operand: u32::from(n.register),
     };
     put(&mut *kinds, &mut *operands, at, first);
     if n.kind != SCAN {
@@ -95,13 +87,11 @@ fn put_lines(list: &[u16], lines: usize, places: &[u16], kinds: &mut [u8], opera
     ensures { Tabled (table_of (code (lines_of list.now) 2 (lines_of list.now))) 1
         kinds.old operands.old kinds.new operands.new }
 {
-    let mut i: usize = 0;
-    while i < lines {
+    for i in 0..lines {
         let n = numbers_at(list, i);
-        i += 1;
         let one = place_at(places, n.one);
         let hash = place_at(places, n.hash);
-        put_line(&mut *kinds, &mut *operands, places[i], n, one, hash);
+        put_line(&mut *kinds, &mut *operands, places[i + 1], n, one, hash);
     }
 }
 
@@ -120,5 +110,5 @@ pub fn fill_passed(list: &[u16], lines: usize, kinds: &mut [u8], operands: &mut 
     };
     put(&mut *kinds, &mut *operands, 0, start);
     put_lines(list, lines, &places, &mut *kinds, &mut *operands);
-    places[lines + 1] as usize - 1
+    usize::from(places[lines + 1]) - 1
 }

@@ -26,11 +26,10 @@ pub fn put_places(list: &[u16], lines: usize, places: &mut [u16; PLACES])
     ensures { Placed (lines_of list.now) lines places.new }
 {
     *places = [FIRST; PLACES];
-    let mut i: usize = 0;
-    while i < lines {
+    for i in 0..lines {
         let n = numbers_at(list, i);
-        i += 1;
-        places[i + 1] = places[i] + size_of(n.kind);
+        let line = i + 1;
+        places[line + 1] = places[line] + size_of(n.kind);
     }
 }
 
@@ -38,6 +37,8 @@ pub fn put_places(list: &[u16], lines: usize, places: &mut [u16; PLACES])
 pub fn place_at(places: &[u16], line: u16) -> u16
     ensures { result ≡ get_or places.now line 0 }
 {
-    let i = line as usize;
-    if i < places.len() { places[i] } else { 0 }
+    match places.get(usize::from(line)) {
+        Some(place) => *place,
+        None => 0,
+    }
 }

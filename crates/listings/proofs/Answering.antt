@@ -1,4 +1,6 @@
 -- What is answered: of a table, of lines that are numbers, and of a text, rule by rule.
+use Rattle.instruction.specs.declared.Size.{Size}
+use Rattle.std.specs.Prelude.{Result, Ok, Err}
 use mathlib.Core.Path.{◌≡◌, refl, sym, ◌∙◌}
 use mathlib.Core.Bool.{true, false, ◌||◌}
 use mathlib.Core.Option.{Option, none, some}
@@ -21,10 +23,6 @@ use Rattle.theory.proofs.Words.{good_table}
 use Rattle.theory.proofs.Sizes.{word_good}
 use Rattle.output.specs.Puts.{starting}
 use Rattle.output.proofs.Puts.{starting-whole}
-use Rattle.word.specs.declared.answers.Read.{Read}
-use Rattle.word.specs.declared.answers.Read.TheVariants as R
-use Rattle.word.specs.declared.answers.Written.{Written}
-use Rattle.word.specs.declared.answers.Written.TheVariants as W
 use Rattle.word.specs.Answers.{written_answer, zipped}
 use Rattle.listing.specs.Listing.{Line, line, word, word_text}
 use Rattle.listing.specs.Refused.{most_lines, rule_3, listing_fault, text_lines, text_fault, read_listing, translate_listing}
@@ -32,8 +30,6 @@ use Rattle.listing.specs.Claims.{ListingFits}
 use Rattle.listing.proofs.Fits.{listing_words_fit}
 use Rattle.listing.proofs.Texts.{listings_read}
 use Rattle.listing_numbers.specs.Numbers.{list_of}
-use Rattle.instruction.specs.declared.Translated.{Translated}
-use Rattle.instruction.specs.declared.Translated.TheVariants as T
 use Rattle.listings.specs.Answers.{Answers, sized, Sized, written}
 use Rattle.listing_check.specs.Lined.{read}
 use Rattle.listing_table.specs.Tables.{most_entries, Tabled, counted, kinds_filled, operands_filled, Fills}
@@ -43,13 +39,13 @@ use Rattle.listings.proofs.Texts.{list_length, numbers_read}
 
 -- A table written
 
-pub sized_done : (n : ℕ) (a : Answer Bytes) {w : Written} {symbols : ℕ} → w ≡ written_answer a → w ≡ W.Done symbols
-    → T.Done (record { symbols = symbols; instructions = n }) ≡ sized n a
+pub sized_done : (n : ℕ) (a : Answer Bytes) {w : Result ℕ Refusal} {symbols : ℕ} → w ≡ written_answer a → w ≡ Ok symbols
+    → Ok (record { symbols = symbols; instructions = n }) ≡ sized n a
 sized_done n (done u) {symbols = symbols} e f = let same : symbols ≡ length u = cc in rw same
 sized_done n (refused r) e f = cc
 
-pub sized_refused : (n : ℕ) (a : Answer Bytes) {w : Written} {r : Refusal} → w ≡ written_answer a → w ≡ W.Refused r
-    → T.Refused r ≡ sized n a
+pub sized_refused : (n : ℕ) (a : Answer Bytes) {w : Result ℕ Refusal} {r : Refusal} → w ≡ written_answer a → w ≡ Err r
+    → Err r ≡ sized n a
 sized_refused n (done u) e f = cc
 sized_refused n (refused q) e f = cc
 
@@ -68,7 +64,7 @@ some_instruction l = omega arith
 
 -- The table of a listing's word
 module _ (lent : Bytes) (l : List Line) where
-  pub listing_written : {r : Translated} {out : Bytes} → Sized (length (word l)) (table_of (word l)) lent r out
+  pub listing_written : {r : Result Size Refusal} {out : Bytes} → Sized (length (word l)) (table_of (word l)) lent r out
       → Answers (written lent l) lent r out
   unfolding word_text spell
   listing_written {r} {out} s = go (write_word_into lent (table_of (word l))) refl
@@ -82,7 +78,7 @@ module _ (lent : Bytes) (l : List Line) where
   -- from lists that have room for it
   pub filled_written : {count : ℕ} {k o k' o' : List ℕ} → count ≡ length (word l) → length (word l) ≤ most_entries
       → Tabled (table_of (word l)) 0 k o k' o' → length k ≡ most_entries → length o ≡ most_entries
-      → {r : Translated} {out : Bytes} → Sized count (zipped (take count k') (take count o')) lent r out
+      → {r : Result Size Refusal} {out : Bytes} → Sized count (zipped (take count k') (take count o')) lent r out
       → Answers (written lent l) lent r out
   filled_written {count} {k' = k'} {o'} e short t room_k room_o s =
       let size : count ≡ length (table_of (word l)) = e ∙ sym (length-map (word l) entry_of) in
@@ -104,12 +100,12 @@ module _ (lent : Bytes) (l : List Line) where
 
 -- Lines as numbers, from what `fill` handed back
 
-module _ (lent : Bytes) (list k o : List ℕ) {k' o' : List ℕ} {r : Read} (f : Fills list k o r k' o') where
-  pub list_refused : {q : Refusal} → r ≡ R.Refused q → Answers (after (read list) (written lent)) lent (T.Refused q) lent
+module _ (lent : Bytes) (list k o : List ℕ) {k' o' : List ℕ} {r : Result ℕ Refusal} (f : Fills list k o r k' o') where
+  pub list_refused : {q : Refusal} → r ≡ Err q → Answers (after (read list) (written lent)) lent (Err q) lent
   unfolding lent_after
   list_refused {q} e = go (read list) f.0
     where
-      go : (a : Answer (List Line)) → r ≡ counted a → Answers (after a (written lent)) lent (T.Refused q) lent
+      go : (a : Answer (List Line)) → r ≡ counted a → Answers (after a (written lent)) lent (Err q) lent
       go (done l) g = absurd (let z : ◌≡◌ {A = ℕ} 0 1 = cc in omega arith)
       go (refused p) g = let same : q ≡ p = cc in (rw same, refl)
 
@@ -120,7 +116,7 @@ module _ (lent : Bytes) (list k o : List ℕ) {k' o' : List ℕ} {r : Read} (f :
     size : count ≡ length (word listing)
     table : Tabled (table_of (word listing)) 0 k o k' o'
 
-  module _ {count : ℕ} (e : r ≡ R.Done count) where
+  module _ {count : ℕ} (e : r ≡ Ok count) where
     filled : Filled count
     filled = go (read list) refl f.0 f.1 f.2
       where
@@ -136,7 +132,7 @@ module _ (lent : Bytes) (list k o : List ℕ) {k' o' : List ℕ} {r : Read} (f :
           let operands : _ = tabled_operands filled.table in
           (omega (arith, filled.size), omega (arith, filled.size))
 
-      pub list_answered : {s : Translated} {out : Bytes} → Sized count (zipped (take count k') (take count o')) lent s out
+      pub list_answered : {s : Result Size Refusal} {out : Bytes} → Sized count (zipped (take count k') (take count o')) lent s out
           → Answers (after (read list) (written lent)) lent s out
       list_answered a =
           let short : _ = word_fits list filled.listing filled.is in
@@ -154,17 +150,17 @@ module _ (lent t : Bytes) where
       go (done l) e = listing_fits lent l (listing_words_fit l (listings_read.accepted t l e).0)
       go (refused r) e = refl
 
-  text_refused : (r : Refusal) → read_listing t ≡ refused r → Answers (translate_listing lent t) lent (T.Refused r) lent
+  text_refused : (r : Refusal) → read_listing t ≡ refused r → Answers (translate_listing lent t) lent (Err r) lent
   unfolding translate_into lent_after
   text_refused r e = (rw e, rw e)
 
-  pub refused_1 : most_bytes < length t → Answers (translate_listing lent t) lent (T.Refused (record { number = 1; place = 0 })) lent
+  pub refused_1 : most_bytes < length t → Answers (translate_listing lent t) lent (Err (record { number = 1; place = 0 })) lent
   unfolding read_listing text_fault rule_1
   refused_1 h = text_refused _ (rw (lt-leb (length t) most_bytes h))
 
   module _ (h : length t ≤ most_bytes) (lines : ℕ) (n : lines ≡ length (split_lines t)) where
     pub refused_2 : (eqb (length t) 0 || ends_in_LF t) ≡ false
-        → Answers (translate_listing lent t) lent (T.Refused (record { number = 2; place = lines })) lent
+        → Answers (translate_listing lent t) lent (Err (record { number = 2; place = lines })) lent
     unfolding read_listing text_fault rule_1 rule_2
     refused_2 e = text_refused _ (rw (le-leb (length t) most_bytes h, e, n))
 
@@ -176,7 +172,7 @@ module _ (lent t : Bytes) where
       unfolding read_listing text_fault rule_1 rule_2
       past_2 = rw (le-leb (length t) most_bytes h, e)
 
-      pub refused_3 : most_lines < lines → Answers (translate_listing lent t) lent (T.Refused (record { number = 3; place = 257 })) lent
+      pub refused_3 : most_lines < lines → Answers (translate_listing lent t) lent (Err (record { number = 3; place = 257 })) lent
       unfolding listing_fault rule_3
       refused_3 g = text_refused _ (past_2 ∙ rw (many, lt-leb lines most_lines g))
 
@@ -185,7 +181,7 @@ module _ (lent t : Bytes) where
         past_3 = past_2 ∙ sym (numbers_read (text_lines t) (omega (arith, many)))
 
         pub text-answered : (list fresh : List ℕ) → length fresh ≡ 1024 → list ≡ starting (list_of (text_lines t)) fresh
-            → {r : Translated} {out : Bytes} → Answers (after (read (take (4 * lines) list)) (written lent)) lent r out
+            → {r : Result Size Refusal} {out : Bytes} → Answers (after (read (take (4 * lines) list)) (written lent)) lent r out
             → Answers (translate_listing lent t) lent r out
         text-answered list fresh room put a =
             let numbers : List ℕ = list_of (text_lines t) in

@@ -10,54 +10,47 @@ ghost use Rattle.listing.specs.Refused.{most_lines, translate_listing};
 ghost use Rattle.listings.specs.Answers.{translated, Answers, written, Sized};
 ghost use Rattle.listing_check.specs.Lined.{read};
 
-use instruction::{Size, Translated};
+use instruction::Size;
 use listing_check::LINES;
 use listing_lines::read_lines;
 use listing_table::{INSTRUCTIONS, fill};
 use table::write;
 use text::{BYTES, is_ended};
-use theory::Refusal;
-use word::{Read, Written};
+use theory::{Refusal, refused};
 
 // The numbers of the most lines, four a line.
 const NUMBERS: usize = 4 * LINES;
 
-// The answer where a rule applies: its number, and the place that it names.
-fn refused(number: u32, place: usize) -> Translated
-    ensures { result ≡ Translated.Refused (record { number = number; place = place }) }
-{
-    Translated::Refused(Refusal { number, place })
-}
-
 // The first so many entries of a table, written as a word.
-fn write_table(kinds: &[u8], operands: &[u32], count: usize, word: &mut [u8]) -> Translated
+fn write_table(
+    kinds: &[u8],
+    operands: &[u32],
+    count: usize,
+    word: &mut [u8],
+) -> Result<Size, Refusal>
     requires { (count ≤ length kinds.now) × (count ≤ length operands.now) }
     ensures { Sized count (zipped (take count kinds.now) (take count operands.now)) word.old result
         word.new }
 {
-    match write(&kinds[..count], &operands[..count], word) {
-        Written::Done(symbols) => Translated::Done(Size {
-            symbols,
-            instructions: count,
-        }),
-        Written::Refused(r) => Translated::Refused(r),
-    }
+    let symbols = write(&kinds[..count], &operands[..count], word)?;
+    Ok(Size {
+        symbols,
+        instructions: count,
+    })
 }
 
 // Lines as numbers: rules 3, 4 and 22, then 19.
-fn translate_list(list: &[u16], word: &mut [u8]) -> Translated
+fn translate_list(list: &[u16], word: &mut [u8]) -> Result<Size, Refusal>
     ensures { Answers (after (read list.now) (written word.old)) word.old result word.new }
 {
     let mut kinds = [0u8; INSTRUCTIONS];
     let mut operands = [0u32; INSTRUCTIONS];
-    match fill(list, &mut kinds, &mut operands) {
-        Read::Refused(r) => Translated::Refused(r),
-        Read::Done(count) => write_table(&kinds, &operands, count, word),
-    }
+    let count = fill(list, &mut kinds, &mut operands)?;
+    write_table(&kinds, &operands, count, word)
 }
 
 // The first so many lines of a list.
-fn translate_first(list: &[u16], lines: usize, word: &mut [u8]) -> Translated
+fn translate_first(list: &[u16], lines: usize, word: &mut [u8]) -> Result<Size, Refusal>
     requires { (4 * lines ≤ length list.now) × (lines ≤ most_lines) }
     ensures { Answers (after (read (take (4 * lines) list.now)) (written word.old)) word.old result
         word.new }
@@ -67,7 +60,7 @@ fn translate_first(list: &[u16], lines: usize, word: &mut [u8]) -> Translated
 }
 
 // A text, translated: rules 1 to 4 and 22, then 19.
-pub fn translate(text: &[u8], word: &mut [u8]) -> Translated
+pub fn translate(text: &[u8], word: &mut [u8]) -> Result<Size, Refusal>
     ensures value { result ≡ translated (translate_listing word.old text.now) }
     ensures word_after { word.new
         ≡ lent_after word.old (mapped word_text (translate_listing word.old text.now)) }

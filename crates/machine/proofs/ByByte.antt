@@ -1,4 +1,6 @@
 -- A table's answers as those of the word that it spells.
+use Rattle.std.specs.Prelude.{Result, Ok, Err}
+use Rattle.theory.specs.declared.Refusal.{Refusal}
 use mathlib.Core.Path.{◌≡◌, refl, ap, ◌∙◌}
 use mathlib.Core.Bool.{Bool, true, false}
 use mathlib.Core.Option.{Option, none, some}
@@ -9,8 +11,7 @@ use Rattle.theory.specs.Word.{Entry}
 use Rattle.theory.specs.Machines.{Memory, count, is_memory}
 use Rattle.theory.specs.TurnedDown.{done, refused, rule_10, table_fault, total, for_machine}
 use Rattle.memory.specs.declared.answers.Position.{Position}
-use Rattle.memory.specs.declared.answers.Ended.{Ended}
-use Rattle.memory.specs.declared.answers.Ended.TheVariants as Ended
+use Rattle.theory.specs.declared.Ended.{Ended}
 use Rattle.memory.specs.declared.answers.Run.{Run}
 use Rattle.memory.specs.Calls.{Called, called, handed, moved_to, table_called}
 use Rattle.engine.proofs.Rule15.{first_lacking}
@@ -19,9 +20,9 @@ use Rattle.engine.proofs.Answered.{table-lacks, table-passes}
 use Rattle.engine.proofs.Judged.{no_memory, table-read}
 use Rattle.machine.specs.ByByte.{word_for, by_byte}
 
-abbrev pub ended-by_byte : List Entry → Ended → Ended
-ended-by_byte t (Ended.Ran e n) = Ended.Ran e n
-ended-by_byte t (Ended.Refused r) = Ended.Refused (by_byte t r)
+abbrev pub ended-by_byte : List Entry → Result Ended Refusal → Result Ended Refusal
+ended-by_byte t (Ok e) = Ok e
+ended-by_byte t (Err r) = Err (by_byte t r)
 
 abbrev pub called-by_byte : List Entry → Called → Called
 called-by_byte t c = handed (moved_to c.run.position (ended-by_byte t c.run.ended)) c.store c.lengths
@@ -49,6 +50,6 @@ word_by_table m p budget t f = go (is_memory m) refl (first_lacking (count m) t)
 
 -- What the run of a table handed back, its end told as that of the word
 pub ran_by_table : (m : Memory) (p : Position) (budget : ℕ) (t : List Entry) → table_fault t ≡ none → (run : Run) (store lengths : List ℕ)
-    → handed run store lengths ≡ table_called m p budget t → (e : Ended) → run.ended ≡ e
+    → handed run store lengths ≡ table_called m p budget t → (e : Result Ended Refusal) → run.ended ≡ e
     → handed (moved_to run.position (ended-by_byte t e)) store lengths ≡ called m p budget (for_machine m (word_for (count m) t))
 ran_by_table m p budget t f run store lengths h e q = rw (← q) (ap (called-by_byte t) h ∙ word_by_table m p budget t f)

@@ -8,21 +8,19 @@ ghost use Rattle.word.specs.Answers.{zipped};
 ghost use Rattle.memory.specs.Calls.{memory, handed, called, word_called, moved_to};
 ghost use Rattle.machine.specs.ByByte.{word_for, by_byte, Paired};
 
-use memory::{Ended, Position, Run};
+use memory::{Position, Run};
 use precedence::turned_down;
-use theory::Refusal;
-use word::{Instruction, Read};
+use theory::{Ended, Refusal};
+use word::Instruction;
 
 // Where instruction n starts in the word, counted from 0: all symbols of those before it.
 fn start_of(kinds: &[u8], operands: &[u32], n: usize) -> usize
     requires { (length kinds.now ≡ length operands.now) × (n ≤ length kinds.now) × (length kinds.now ≤ 8192) }
     ensures { result ≡ total (take n (zipped kinds.now operands.now)) }
 {
-    let mut i: usize = 0;
     let mut start: usize = 0;
-    while i < n {
-        start += operands[i] as usize + kinds[i] as usize;
-        i += 1;
+    for i in 0..n {
+        start += operands[i] as usize + usize::from(kinds[i]);
     }
     start
 }
@@ -63,13 +61,11 @@ fn run_instructions(
         (word_for (length capacities.now) (zipped kinds.now operands.now))) }
 {
     let run = engine::run_numbers(capacities, store, lengths, at, kinds, operands, budget);
-    let position = run.position;
-    let ended = run.ended;
-    match ended {
-        Ended::Ran(_, _) => run,
-        Ended::Refused(r) => Run {
-            position,
-            ended: Ended::Refused(by_byte(r, kinds, operands)),
+    match run.ended {
+        Ok(_) => run,
+        Err(r) => Run {
+            position: run.position,
+            ended: Err(by_byte(r, kinds, operands)),
         },
     }
 }
@@ -89,7 +85,7 @@ pub fn run_word(
     let mut kinds = [0u8; Instruction::INSTRUCTIONS];
     let mut operands = [0u32; Instruction::INSTRUCTIONS];
     match word::read(word, &mut kinds, &mut operands) {
-        Read::Done(count) => run_instructions(
+        Ok(count) => run_instructions(
             capacities,
             store,
             lengths,
@@ -98,21 +94,8 @@ pub fn run_word(
             &operands[..count],
             budget,
         ),
-        Read::Refused(r) => turned_down(capacities, store, lengths, at, r),
+        Err(r) => turned_down(capacities, store, lengths, at, r),
     }
-}
-
-// The two parts of what a run hands back.
-fn position_of(r: Run) -> Position
-    ensures { result ≡ r.position }
-{
-    r.position
-}
-
-fn ended_of(r: Run) -> Ended
-    ensures { result ≡ r.ended }
-{
-    r.ended
 }
 
 // One step of a word, a run of budget 1, which moves the lent record.
@@ -122,12 +105,12 @@ pub fn step(
     lengths: &mut [u16],
     at: &mut Position,
     word: &[u8],
-) -> Ended
+) -> Result<Ended, Refusal>
     ensures { handed (moved_to at.new result) store.new lengths.new
         ≡ word_called (memory capacities.now store.old lengths.old) at.old 1
         word.now }
 {
     let r = run_word(capacities, store, lengths, *at, word, 1);
-    *at = position_of(r);
-    ended_of(r)
+    *at = r.position;
+    r.ended
 }

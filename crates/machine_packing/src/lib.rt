@@ -1,13 +1,12 @@
-// Answers on words and on runs as numbers for the C host: a word read or written, a run's end and a value, packed with its counts, or its
-// refusal (specs/Answered).
+// Answers on runs as numbers for the C host: a run's end and a value, packed with its count, or its refusal (specs/Answered).
 #![tactic(auto)]
 
 ghost use Rattle.std.specs.Prelude.{◌≡◌};
 ghost use Rattle.packing.specs.Packed.{pack, end_number};
-ghost use Rattle.machine_packing.specs.Answered.{word_read, word_written, source_ended, word_ended, value_read};
+ghost use Rattle.machine_packing.specs.Answered.{run_ended, value_read};
 
 use packing::{pack, refused};
-use theory::End;
+use theory::{End, Ended, Refusal};
 
 // The number of an end.
 fn number(end: End) -> u8
@@ -28,53 +27,23 @@ fn ended(end: End, steps: u32) -> u64
     pack(number(end), 0, steps as usize)
 }
 
-// A word read, by its instructions.
-pub fn word_read(read: word::Read) -> u64
-    ensures { result ≡ word_read read }
-{
-    match read {
-        word::Read::Done(instructions) => pack(0, 0, instructions),
-        word::Read::Refused(r) => refused(r),
-    }
-}
-
-// A word written, by its symbols.
-pub fn word_written(written: word::Written) -> u64
-    ensures { result ≡ word_written written }
-{
-    match written {
-        word::Written::Done(symbols) => pack(0, 0, symbols),
-        word::Written::Refused(r) => refused(r),
-    }
-}
-
-// A source run, by its end and its steps.
-pub fn source_ended(run: source::Ended) -> u64
-    ensures { result ≡ source_ended run }
+// A run of a source or of a word, by its end and its steps.
+pub fn run_ended(run: Result<Ended, Refusal>) -> u64
+    ensures { result ≡ run_ended run }
 {
     match run {
-        source::Ended::Ran(end, steps) => ended(end, steps),
-        source::Ended::Refused(r) => refused(r),
-    }
-}
-
-// A word run, by its end and its steps.
-pub fn word_ended(run: memory::Ended) -> u64
-    ensures { result ≡ word_ended run }
-{
-    match run {
-        memory::Ended::Ran(end, steps) => ended(end, steps),
-        memory::Ended::Refused(r) => refused(r),
+        Ok(run) => ended(run.end, run.steps),
+        Err(r) => refused(r),
     }
 }
 
 // A value, by its symbols, or untidy.
-pub fn value_read(value: memory::Value) -> u64
+pub fn value_read(value: Result<Option<usize>, Refusal>) -> u64
     ensures { result ≡ value_read value }
 {
     match value {
-        memory::Value::Length(length) => pack(0, 0, length),
-        memory::Value::Untidy => pack(5, 0, 0),
-        memory::Value::Refused(r) => refused(r),
+        Ok(Some(length)) => pack(0, 0, length),
+        Ok(None) => pack(5, 0, 0),
+        Err(r) => refused(r),
     }
 }

@@ -16,12 +16,12 @@ use Rattle.theory.specs.TurnedDown.{rule_10}
 use Rattle.theory.proofs.Faults.{and_first}
 use Rattle.theory.proofs.GoodMemory.{Good, memory-is_good, length-contents, contents-laid, contents_fit, take-laid}
 use Rattle.theory.proofs.Values.{all_below-same}
-use Rattle.memory.specs.declared.answers.Value.{Value}
-use Rattle.memory.specs.declared.answers.Value.TheVariants as Value
+use Rattle.std.specs.Prelude.{Option, Some, None, Result, Ok, Err}
+use Rattle.theory.specs.declared.Refusal.{Refusal}
 use Rattle.memory.specs.Calls.{Valued}
 use Rattle.memory.specs.Rest.{rest_empty}
 
-pub value_refused : (m : Memory) → is_memory m ≡ false → Valued m (Value.Refused (record { number = 10; place = 0 }))
+pub value_refused : (m : Memory) → is_memory m ≡ false → Valued m (Err (record { number = 10; place = 0 }))
 unfolding rule_10
 value_refused m h = record { is = rw h; bytes = λ n e. let z : ◌≡◌ {A = ℕ} 0 1 = cc in absurd (omega arith) }
 
@@ -57,17 +57,17 @@ module _ (m : Memory) (h : is_memory m ≡ true) where
       ap (λ r. eqb (length (contents m r)) 0) two ∙ ap (λ n. eqb n 0) (length-contents m g (i + 1) (omega arith)))
       ∙ ap (λ n. all_below (n - 1) (λ i. eqb (get_or m.lengths (i + 1) 0) 0)) (sym g.lengths)
 
-  pub value_read : rest_empty m.lengths ≡ true → Valued m (Value.Length (get_or m.lengths 0 0))
+  pub value_read : rest_empty m.lengths ≡ true → Valued m (Ok (Some (get_or m.lengths 0 0)))
   unfolding rule_10
   value_read t = record {
-    is = rw (h, tidy_by_lengths, t) (ap {B = Value} Value.Length value_length);
+    is = rw (h, tidy_by_lengths, t) (ap {B = Result (Option ℕ) Refusal} (λ n. Ok (Some n)) value_length);
     bytes = λ n e. ap (λ (k : ℕ). take k m.store) (same n e) ∙ value_bytes;
   }
     where
-      same : (n : ℕ) → Value.Length (get_or m.lengths 0 0) ≡ Value.Length n → n ≡ length (contents m 1)
+      same : (n : ℕ) → ◌≡◌ {A = Result (Option ℕ) Refusal} (Ok (Some (get_or m.lengths 0 0))) (Ok (Some n)) → n ≡ length (contents m 1)
       same n e = let z : get_or m.lengths 0 0 ≡ n = cc in sym z ∙ value_length
 
-  pub value_untidy : rest_empty m.lengths ≡ false → Valued m Value.Untidy
+  pub value_untidy : rest_empty m.lengths ≡ false → Valued m (Ok None)
   unfolding rule_10
   value_untidy t = record {
     is = rw (h, tidy_by_lengths, t);

@@ -1,5 +1,5 @@
 -- What the public calls hand back, by the definitions of crate theory: a run's answer with the lent memory then, and the value.
-use Rattle.std.specs.Prelude.{◌≡◌, cond, List, ℕ, ◌+◌, length, take}
+use Rattle.std.specs.Prelude.{◌≡◌, cond, List, ℕ, ◌+◌, length, take, Option, Some, None, Result, Ok, Err}
 use Rattle.theory.specs.Text.{Bytes}
 use Rattle.theory.specs.Runs.{Outcome}
 use Rattle.theory.specs.Word as W
@@ -10,14 +10,11 @@ use Rattle.theory.specs.TurnedDown.{Answer, done, refused, answer, run_on}
 use Rattle.theory.specs.TurnedDown.{mapped, rule_10, instructions}
 use Rattle.theory.specs.TurnedDown.{read_word_for, read_table_for}
 use Rattle.theory.specs.declared.End.TheVariants as End
+use Rattle.theory.specs.declared.Ended.{Ended}
 use Rattle.theory.specs.declared.Refusal.{Refusal}
 pub use Rattle.rule10.specs.Lent.{memory}
 use Rattle.memory.specs.declared.answers.Position.{Position}
-use Rattle.memory.specs.declared.answers.Ended.{Ended}
-use Rattle.memory.specs.declared.answers.Ended.TheVariants as Ended
 use Rattle.memory.specs.declared.answers.Run.{Run}
-use Rattle.memory.specs.declared.answers.Value.{Value}
-use Rattle.memory.specs.declared.answers.Value.TheVariants as Value
 
 abbrev pub position : Position → M.Position
 position p = record { place = p.place; steps = p.steps }
@@ -32,7 +29,7 @@ abbrev pub handed : Run → Bytes → List ℕ → Called
 handed r store lengths = record { run = r; store = store; lengths = lengths }
 
 -- How a run ended, and where the machine stands then
-abbrev pub moved_to : Position → Ended → Run
+abbrev pub moved_to : Position → Result Ended Refusal → Run
 moved_to p e = record { position = p; ended = e }
 
 -- A run that was done: the end and the steps taken, the place, the count of steps with those added, and the memory with the registers then
@@ -40,7 +37,7 @@ abbrev pub ran : Memory → Position → Outcome W.State → Called
 ran m p o = record {
   run = record {
     position = record { place = o.state.place; steps = p.steps + o.steps };
-    ended = Ended.Ran o.end o.steps;
+    ended = Ok (record { end = o.end; steps = o.steps });
   };
   store = (refilled m o.state.registers).store;
   lengths = (refilled m o.state.registers).lengths;
@@ -48,11 +45,11 @@ ran m p o = record {
 
 -- A run that does no step, from a place outside
 abbrev pub stands_outside : Position → Run
-stands_outside p = record { position = p; ended = Ended.Ran End.Strayed 0 }
+stands_outside p = record { position = p; ended = Ok (record { end = End.Strayed; steps = 0 }) }
 
 -- "Nothing lent changes"
 abbrev pub refused_at : Position → Refusal → Run
-refused_at p r = record { position = p; ended = Ended.Refused r }
+refused_at p r = record { position = p; ended = Err r }
 
 abbrev pub turned_down : Memory → Position → Refusal → Called
 turned_down m p r = record { run = refused_at p r; store = m.store; lengths = m.lengths }
@@ -81,12 +78,12 @@ table_called m p budget t = answered m p (run_on m (position p) budget (read_tab
 abbrev pub value_of : Memory → Answer M.Value
 value_of m = mapped (λ n. value_at (count n) (contents n)) (answer (rule_10 m) m)
 
-abbrev pub value_answer : Answer M.Value → Value
-value_answer (done (M.valued xs)) = Value.Length (length xs)
-value_answer (done M.untidy) = Value.Untidy
-value_answer (refused r) = Value.Refused r
+abbrev pub value_answer : Answer M.Value → Result (Option ℕ) Refusal
+value_answer (done (M.valued xs)) = Ok (Some (length xs))
+value_answer (done M.untidy) = Ok None
+value_answer (refused r) = Err r
 
 -- The answer, and what stands in as many of the store's first bytes
-pub record Valued (m : Memory) (r : Value) : Type 0 where
+pub record Valued (m : Memory) (r : Result (Option ℕ) Refusal) : Type 0 where
   pub is : r ≡ value_answer (value_of m)
-  pub bytes : (n : ℕ) → r ≡ Value.Length n → take n m.store ≡ bytes_of (contents m 1)
+  pub bytes : (n : ℕ) → r ≡ Ok (Some n) → take n m.store ≡ bytes_of (contents m 1)

@@ -1,7 +1,7 @@
 // The types that this crate's entries take and hand back, with the limit and the fresh position.
 ghost use Rattle.std.specs.Prelude.{◌≡◌, pos};
 
-use theory::{End, Refusal};
+use theory::{Ended, Refusal};
 
 // Where a machine stands: a place, any signed number, and the steps taken so far.
 #[derive(Clone, Copy)]
@@ -21,25 +21,9 @@ impl Position {
     }
 }
 
-// How a run ended, and the steps taken; or why it was turned down.
-#[derive(Clone, Copy)]
-pub enum Ended {
-    Ran(End, u32),
-    Refused(Refusal),
-}
-
-// What a run hands back: where the machine stands then, and how it ended.
+// What a run hands back: where the machine stands then, and how it ended, or why it was turned down.
 #[derive(Clone, Copy)]
 pub struct Run {
     pub position: Position,
-    pub ended: Ended,
-}
-
-// The value of a halted word: register 1, which is the first so many bytes of the store, where every other register is empty; else it is
-// untidy. Or why the call is turned down. Of a word that is not halted this tells what its registers hold so far.
-#[derive(Drop)]
-pub enum Value {
-    Length(usize),
-    Untidy,
-    Refused(Refusal),
+    pub ended: Result<Ended, Refusal>,
 }

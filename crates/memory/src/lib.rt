@@ -7,38 +7,34 @@ ghost use Rattle.std.specs.Prelude.{◌≡◌};
 ghost use Rattle.memory.specs.Calls.{memory, Valued};
 ghost use Rattle.memory.specs.Rest.{rest_empty};
 
-pub use answers::{Ended, Position, Run, Value};
+pub use answers::{Position, Run};
 use layout::wide;
 use rule10::is_memory;
-use theory::Refusal;
+use theory::{Refusal, refused};
 
 // Whether every register but the first is empty, by their lengths.
 fn is_tidy(lengths: &[u16]) -> bool
     ensures { result ≡ rest_empty lengths.now }
 {
-    let mut i: usize = 1;
-    while i < lengths.len() {
+    for i in 1..lengths.len() {
         if lengths[i] != 0 {
             return false;
         }
-        i += 1;
     }
     true
 }
 
-// The value of a halted word: rule 10, and register 1 where every other register is empty.
-pub fn value(capacities: &[u16], store: &[u8], lengths: &[u16]) -> Value
+// The value of a halted word: register 1, which is the first so many bytes of the store, where every other register is empty; else it is
+// untidy, and has none. Or rule 10. Of a word that is not halted this tells what its registers hold so far.
+pub fn value(capacities: &[u16], store: &[u8], lengths: &[u16]) -> Result<Option<usize>, Refusal>
     ensures { Valued (memory capacities.now store.now lengths.now) result }
 {
     if !is_memory(capacities, store, lengths) {
-        return Value::Refused(Refusal {
-            number: 10,
-            place: 0,
-        });
+        return refused(10, 0);
     }
     if is_tidy(lengths) {
-        Value::Length(wide(lengths[0]))
+        Ok(Some(wide(lengths[0])))
     } else {
-        Value::Untidy
+        Ok(None)
     }
 }

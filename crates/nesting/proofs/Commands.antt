@@ -1,4 +1,6 @@
 -- Laws of one command under the pairs that are open: what its three numbers are, and what the code's tests say of the definitions' verdict.
+use Rattle.theory.specs.declared.Refusal.{Refusal}
+use Rattle.std.specs.Prelude.{Result, Ok, Err}
 use mathlib.Core.Path.{◌≡◌, refl, sym, ap, ◌∙◌}
 use mathlib.Core.Logic.{◌⊎◌, inl, inr}
 use mathlib.Core.Bool.{Bool, true, false, cond, ◌&&◌, false≢true}
@@ -18,8 +20,6 @@ use Rattle.theory.specs.TurnedDown.{unless, same_kind, rule_20, pair_fault}
 use Rattle.theory.specs.declared.Setting.{Setting}
 use Rattle.theory.specs.declared.Setting.TheVariants.{Any, LoopOnly}
 use Rattle.nesting.specs.declared.Opening.{Opening}
-use Rattle.nesting.specs.declared.Judged.{Judged}
-use Rattle.nesting.specs.declared.Judged.TheVariants.{Passes, Fault}
 use Rattle.nesting.specs.Nesting.{kind_of, open_of, pairs, is_known, is_banned, verdict, judged}
 
 -- Kinds by a test
@@ -127,20 +127,20 @@ module _ (σ : Setting) (n count : ℕ) (last : Opening) (k i j : ℕ) where
   abbrev os : List P.Opening
   os = pairs count last
 
-  abbrev here : Judged
+  abbrev here : Result ℕ Refusal
   here = judged σ n os (command_of k i j)
 
   long : length os ≡ count
   long = length-replicate count (open_of last)
 
-  pub fault_4 : is_known k j ≡ false → Fault (record { number = 4; place = n }) ≡ here
+  pub fault_4 : is_known k j ≡ false → Err (record { number = 4; place = n }) ≡ here
   fault_4 h = rw (unknown k i j h)
 
   module _ (h : is_known k j ≡ true) where
     abbrev kn : Known k i j
     kn = known k i j h
 
-    pub fault_5 : 31 < max i j → Fault (record { number = 5; place = n }) ≡ here
+    pub fault_5 : 31 < max i j → Err (record { number = 5; place = n }) ≡ here
     fault_5 l =
         let t : 32 < above (indices kn.command) = omega (arith, kn.top) in
         rw (kn.is, lt-leb (above (indices kn.command)) 32 t)
@@ -158,7 +158,7 @@ module _ (σ : Setting) (n count : ℕ) (last : Opening) (k i j : ℕ) where
           let t : above (indices kn.command) ≤ 32 = omega (arith, kn.top) in
           le-leb (above (indices kn.command)) 32 t
 
-      pub fault_20 : is_banned σ k ≡ true → Fault (record { number = 20; place = n }) ≡ here
+      pub fault_20 : is_banned σ k ≡ true → Err (record { number = 20; place = n }) ≡ here
       fault_20 b = rw (kn.is, low, rule_20_is, b)
 
       module _ (b : is_banned σ k ≡ false) where
@@ -180,8 +180,8 @@ module _ (σ : Setting) (n count : ℕ) (last : Opening) (k i j : ℕ) where
             one_less zero = refl
             one_less (suc m) = omega (arith, length-replicate m (open_of last))
 
-        pub of_plain : ((k ≡ 4) ⊎ (k ≡ 6) → ⊥) → ((k ≡ 5) ⊎ (k ≡ 7) → ⊥) → Passes count ≡ here
-        of_plain a c = let p = kn.other a c in ap Passes (sym long) ∙ past_20 (plain p.0) p.1
+        pub of_plain : ((k ≡ 4) ⊎ (k ≡ 6) → ⊥) → ((k ≡ 5) ⊎ (k ≡ 7) → ⊥) → Ok count ≡ here
+        of_plain a c = let p = kn.other a c in ap Ok (sym long) ∙ past_20 (plain p.0) p.1
 
 -- A line that closes a pair
 

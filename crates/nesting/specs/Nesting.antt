@@ -1,5 +1,5 @@
 -- The pairs that are open, as the code has them, and its verdict on one command.
-use Rattle.std.specs.Prelude.{Bool, true, false, cond, List, ℕ, length, replicate, eqb, ltb, leb}
+use Rattle.std.specs.Prelude.{Bool, true, false, cond, List, ℕ, length, replicate, eqb, ltb, leb, Result, Ok, Err}
 use Rattle.std.proofs.Math.Option.{Option, none, some}
 use Rattle.theory.specs.ProgramText as P
 use Rattle.theory.specs.ProgramText.{Kind, loop, while, Command}
@@ -8,8 +8,6 @@ use Rattle.theory.specs.declared.Refusal.{Refusal}
 use Rattle.theory.specs.declared.Setting.{Setting}
 use Rattle.theory.specs.declared.Setting.TheVariants.{Any, LoopOnly}
 use Rattle.nesting.specs.declared.Opening.{Opening}
-use Rattle.nesting.specs.declared.Judged.{Judged}
-use Rattle.nesting.specs.declared.Judged.TheVariants.{Passes, Fault}
 
 -- The kind of a line that opens or closes a pair, by its number: 4 and 5, or 6 and 7
 abbrev pub kind_of : ℕ → Kind
@@ -33,10 +31,10 @@ is_banned Any k = false
 is_banned LoopOnly k = leb 6 k
 
 -- No fault, and so many pairs are open after it; or the fault
-abbrev pub verdict : ℕ → Option Refusal → Judged
-verdict n none = Passes n
-verdict n (some r) = Fault r
+abbrev pub verdict : ℕ → Option Refusal → Result ℕ Refusal
+verdict n none = Ok n
+verdict n (some r) = Err r
 
 -- The verdict on line n, under the setting and the pairs open there
-abbrev pub judged : Setting → ℕ → List P.Opening → Option Command → Judged
+abbrev pub judged : Setting → ℕ → List P.Opening → Option Command → Result ℕ Refusal
 judged σ n os c = verdict (length (open_past n os c)) (line_fault_under σ n os c)

@@ -2,14 +2,14 @@
 // pairs are open after it.
 #![tactic(auto)]
 
-ghost use Rattle.std.specs.Prelude.{◌≡◌, ◌+◌, ◌-◌, max, ◌&&◌, eqb, ltb};
+ghost use Rattle.std.specs.Prelude.{◌≡◌, ◌+◌, ◌-◌, ◌&&◌, eqb, ltb};
 ghost use Rattle.theory.specs.Limits.{most_open};
 ghost use Rattle.theory.specs.ProgramText.{closes, command_of};
 ghost use Rattle.theory.specs.TurnedDown.{unless, same_kind, pair_fault};
 ghost use Rattle.nesting.specs.Nesting.{kind_of, pairs, verdict, judged, is_known, is_banned};
 
 use command::{CLEAR, COPY, ENDLOOP, ENDWHILE, LOOP, Numbers, WHILE};
-use theory::{Refusal, Setting};
+use theory::{Refusal, Setting, refused};
 
 // A line that opens a pair: its number, its kind (LOOP or WHILE) and its index.
 #[derive(Clone, Copy)]
@@ -22,30 +22,6 @@ pub struct Opening {
 impl Opening {
     // How many pairs may be open together.
     pub const MOST: usize = 16;
-}
-
-// A command passes, and so many pairs are open after it; or it is at fault.
-#[derive(Drop)]
-pub enum Judged {
-    Passes(usize),
-    Fault(Refusal),
-}
-
-// The verdict where a rule applies to a line.
-fn fault(number: u32, line: usize) -> Judged
-    ensures { result ≡ Judged.Fault (record { number = number; place = line }) }
-{
-    Judged::Fault(Refusal {
-        number,
-        place: line,
-    })
-}
-
-// The higher of two indices.
-fn higher(index: u8, source: u8) -> u8
-    ensures { result ≡ max index source }
-{
-    if index < source { source } else { index }
 }
 
 // Whether three numbers are a command, whatever the index.
@@ -82,13 +58,13 @@ fn are_alike(kind: u8, other: u8) -> bool
 }
 
 // A line that opens a pair, where so many are open: rule 6.
-fn opened(count: usize, line: usize) -> Judged
+fn opened(count: usize, line: usize) -> Result<usize, Refusal>
     ensures { result ≡ verdict (count + 1) (unless (ltb count most_open) 6 line) }
 {
     if count < Opening::MOST {
-        Judged::Passes(count + 1)
+        Ok(count + 1)
     } else {
-        fault(6, line)
+        refused(6, line)
     }
 }
 
@@ -105,13 +81,13 @@ fn fits(count: usize, last: Opening, kind: u8, index: u8) -> bool
 }
 
 // A line that closes a pair, likewise: rule 7.
-fn closed(count: usize, last: Opening, line: usize, kind: u8, index: u8) -> Judged
+fn closed(count: usize, last: Opening, line: usize, kind: u8, index: u8) -> Result<usize, Refusal>
     ensures { result ≡ verdict (count - 1) (pair_fault line (pairs count last) (closes (kind_of kind) index)) }
 {
     if fits(count, last, kind, index) {
-        Judged::Passes(count - 1)
+        Ok(count - 1)
     } else {
-        fault(7, line)
+        refused(7, line)
     }
 }
 
@@ -124,21 +100,21 @@ pub fn judge(
     kind: u8,
     index: u8,
     source: u8,
-) -> Judged
+) -> Result<usize, Refusal>
     ensures { result ≡ judged setting line (pairs count last) (command_of kind index source) }
 {
     if !is_command(kind, source) {
-        return fault(4, line);
+        return refused(4, line);
     }
-    if Numbers::INDEX < higher(index, source) {
-        return fault(5, line);
+    if Numbers::INDEX < index.max(source) {
+        return refused(5, line);
     }
     if is_banned(setting, kind) {
-        return fault(20, line);
+        return refused(20, line);
     }
     match kind {
         LOOP | WHILE => opened(count, line),
         ENDLOOP | ENDWHILE => closed(count, last, line, kind, index),
-        _ => Judged::Passes(count),
+        _ => Ok(count),
     }
 }

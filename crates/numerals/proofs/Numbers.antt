@@ -1,9 +1,9 @@
 -- Laws of what stands at a place of a text: digits, numerals and names.
-use mathlib.Core.Path.{◌≡◌, refl, sym, ap, ap₂, ◌∙◌}
+use mathlib.Core.Path.{◌≡◌, refl, sym, ap, ◌∙◌}
 use mathlib.Core.Bool.{Bool, true, false}
 use mathlib.Core.Option.{some}
 use mathlib.Core.List.{[], ◌∷◌}
-use Prim.Native.Nat.{ℕ, suc, ◌+◌, ◌-◌, ◌*◌, ◌<◌, ◌≤◌, min}
+use Prim.Native.Nat.{ℕ, suc, ◌+◌, ◌-◌, ◌*◌, ◌<◌, ◌≤◌, min, max}
 use native.Mathlib.Nat.{add-zero}
 use native.Mathlib.Numerals.{add-one}
 use native.Mathlib.Omega.{arith}
@@ -11,10 +11,11 @@ use borrow.Author.Tests.{leb-true, leb-false, lt-leb, le-leb, eq-eqb, ne_eqb}
 use lib.Dec.{eqb, leb}
 use lib.ListN.{length, get_or, drop, replicate, length-append, length-drop, length-replicate, drop_of_length-le, get_or-append}
 use lib.Seq.{drop-cons, get_or-drop}
+use Rattle.std.specs.Prelude as code
+use Rattle.std.specs.Prelude.{None, Some}
 use Rattle.theory.specs.Text.{Bytes, Found, is_digit, digits, value_after, proper, numeral, prime, primes, digit_first, index, name}
 use Rattle.theory.proofs.Numerals.{value_grows, digits_split, primes-whole}
-use Rattle.numerals.specs.declared.Number.TheVariants.{To, No}
-use Rattle.numerals.specs.declared.Digits.{Digits}
+use Rattle.numerals.specs.declared.Number.{Number}
 use Rattle.text.specs.Runs.{leading, run}
 use Rattle.numerals.specs.Numbers.{found_in, DigitsTo}
 
@@ -65,11 +66,21 @@ module _ {s : Bytes} {at most end value : ℕ} (h : DigitsFrom s at most end val
   unfolding digits
   digits_high l b = stop (rw (drop-cons s end 0 l, lt-leb (get_or s end 0) 57 b, le-leb 48 (get_or s end 0) (omega arith)))
 
-  pub digits_end : length s ≤ end → DigitsTo s at most (record { end = end; value = value })
+  -- Where none ended them before: at the text's end, or where they began past it
+  pub digits_end : {last : ℕ} → last ≡ max (length s) at → (at ≤ length s → end ≤ length s) → length s ≤ end
+      → DigitsTo s at most (record { end = last; value = value })
   unfolding digits
-  digits_end l = stop (rw (drop_of_length-le s l))
+  digits_end {last} e inside l =
+      let none : (digits (drop end s)).value ≡ [] = rw (drop_of_length-le s l) in
+      let past : length s ≤ at → length (digits (drop at s)).value ≡ 0 = λ k. rw (drop_of_length-le s k) in
+      let same : last ≡ end = grind (arith, e, inside, past, h.long, ap length none) in
+      rw same (stop none)
 
 -- Numerals
+
+told : {a b m n : ℕ} → a ≡ b → m ≡ n
+    → ◌≡◌ {A = code.Option Number} (Some (record { end = a; value = m })) (Some (record { end = b; value = n }))
+told e f = rw (e, f)
 
 proper_none : (d : Bytes) → length d ≡ 0 → proper d ≡ false
 proper_none [] e = refl
@@ -112,7 +123,7 @@ module _ (s : Bytes) (at most : ℕ) where
   abbrev read : Found Bytes
   read = digits (drop at s)
 
-  improper : proper read.value ≡ false → No ≡ found_in (length s) most (numeral (drop at s))
+  improper : proper read.value ≡ false → None ≡ found_in (length s) most (numeral (drop at s))
   unfolding numeral
   improper e = rw e
 
@@ -126,11 +137,11 @@ module _ (s : Bytes) (at most : ℕ) where
       ∙ get_or-drop at s 0 0
       ∙ rw (add-zero at)
 
-  module _ {r : Digits} (d : DigitsTo s at most r) where
+  module _ {r : Number} (d : DigitsTo s at most r) where
     pub digit_missing : r.end ≤ at → digit_first (drop at s) ≡ false
     digit_missing e = no_first_digit (drop at s) (omega (arith, d.end))
 
-    pub no_digits : r.end ≤ at → No ≡ found_in (length s) most (numeral (drop at s))
+    pub no_digits : r.end ≤ at → None ≡ found_in (length s) most (numeral (drop at s))
     no_digits e = improper (proper_none read.value (omega (arith, d.end)))
 
     module _ (some : at < r.end) where
@@ -140,17 +151,17 @@ module _ (s : Bytes) (at most : ℕ) where
       pub digits-within : at < length s
       digits-within = omega (arith, d.end, long)
 
-      properly : proper read.value ≡ true → To r.end r.value ≡ found_in (length s) most (numeral (drop at s))
+      properly : proper read.value ≡ true → Some r ≡ found_in (length s) most (numeral (drop at s))
       unfolding numeral
-      properly e = rw e (ap₂ To (omega (arith, long, d.end)) d.value)
+      properly e = rw e (told (omega (arith, long, d.end)) d.value)
 
-      pub no_zero : get_or s at 0 ≡ 48 → at + 1 < r.end → No ≡ found_in (length s) most (numeral (drop at s))
+      pub no_zero : get_or s at 0 ≡ 48 → at + 1 < r.end → None ≡ found_in (length s) most (numeral (drop at s))
       no_zero e l = improper (proper_zero read.value (omega (arith, d.end)) (first (omega (arith, d.end)) ∙ e))
 
-      pub numeral_one : r.end ≤ at + 1 → To r.end r.value ≡ found_in (length s) most (numeral (drop at s))
+      pub numeral_one : r.end ≤ at + 1 → Some r ≡ found_in (length s) most (numeral (drop at s))
       numeral_one l = properly (proper_one read.value (omega (arith, d.end)))
 
-      pub numeral_other : (get_or s at 0 ≡ 48 → ⊥) → To r.end r.value ≡ found_in (length s) most (numeral (drop at s))
+      pub numeral_other : (get_or s at 0 ≡ 48 → ⊥) → Some r ≡ found_in (length s) most (numeral (drop at s))
       numeral_other z =
           let l : 0 < length read.value = omega (arith, d.end) in
           properly (proper_other read.value l (λ e. z (sym (first l) ∙ e)))
@@ -174,17 +185,17 @@ primes-long t =
 
 module _ (s : Bytes) (at most : ℕ) where
   pub primes_found : at ≤ length s → {value : ℕ} → value ≡ min (run prime (drop at s)) most
-      → To (at + run prime (drop at s)) value ≡ found_in (length s) most (some (primes (drop at s)))
+      → Some (record { end = at + run prime (drop at s); value = value }) ≡ found_in (length s) most (some (primes (drop at s)))
   primes_found h e =
-      ap₂ To (omega (arith, primes-run (drop at s), primes-long (drop at s), length-drop at s))
+      told (omega (arith, primes-run (drop at s), primes-long (drop at s), length-drop at s))
       (e ∙ ap (λ n. min n most) (sym (primes-run (drop at s))))
 
-  pub no_name_end : length s ≤ at → No ≡ found_in (length s) most (name (drop at s))
+  pub no_name_end : length s ≤ at → None ≡ found_in (length s) most (name (drop at s))
   unfolding name
   no_name_end h = rw (drop_of_length-le s h)
 
   module _ (h : at < length s) where
-    pub no_name_X : (get_or s at 0 ≡ 88 → ⊥) → No ≡ found_in (length s) most (name (drop at s))
+    pub no_name_X : (get_or s at 0 ≡ 88 → ⊥) → None ≡ found_in (length s) most (name (drop at s))
     unfolding name
     no_name_X n = rw (drop-cons s at 0 h, ne_eqb (get_or s at 0) 88 n)
 

@@ -1,15 +1,14 @@
 -- Places laid anew: a run of bytes written in a place, and one place after the other.
-use mathlib.Core.Path.{◌≡◌, refl, sym, ◌∙◌}
+use mathlib.Core.Path.{◌≡◌, refl, ◌∙◌}
 use mathlib.Core.List.{List, [], ◌∷◌, ◌++◌, append-nil}
 use Prim.Native.Nat.{ℕ, ◌-◌, ◌≤◌, min}
 use native.Mathlib.Omega.{arith}
 use borrow.Rule.Slice.PartMut.{put_mid}
-use lib.ListN.{length, take, drop, get_or, replicate, length-drop}
-use lib.Seq.{sets, drop-cons, length-sets}
+use lib.ListN.{length, take, drop, replicate}
+use lib.Seq.{sets, length-sets}
 use Rattle.theory.specs.Text.{Bytes}
 use Rattle.output.specs.Puts.{most, starting}
 use Rattle.output.proofs.Puts.{put_part, put_past}
-use Rattle.layout.proofs.Walks.{Walk}
 use Rattle.ones.specs.Ones.{relaid_place, relaid}
 
 -- A run of one byte, from one byte of a place on and before another
@@ -35,43 +34,21 @@ module _ (before after : ℕ) (place : Bytes) where
   unfolding relaid_place
   relaid_by p q e f = rw (e, p, q) at f
 
-  relaid-length : length (relaid_place before after place) ≡ length place
+  pub relaid-length : length (relaid_place before after place) ≡ length place
   unfolding relaid_place
   relaid-length =
       length-sets (sets place before (replicate (after - before) 49)) after (replicate (before - after) 0)
       ∙ length-sets place before (replicate (after - before) 49)
 
--- Less as many of both
-less : (x y i : ℕ) → min x y - i ≡ min (x - i) (y - i)
-less x y i = omega arith
-
--- Where a list ends, the rest stays as it is
-relaid_end : (cs bs ns : List ℕ) (store : Bytes) → min (length cs) (min (length bs) (length ns)) ≡ 0 → relaid cs bs ns store ≡ store
+-- One place after the other, while there are a capacity and lengths of both kinds
+pub relaid_end : (cs bs ns : List ℕ) → min (length cs) (min (length bs) (length ns)) ≡ 0 → (store : Bytes) → relaid cs bs ns store ≡ store
 unfolding relaid
-relaid_end [] bs ns store h = refl
-relaid_end (c ∷ cs) [] ns store h = refl
-relaid_end (c ∷ cs) (b ∷ bs) [] store h = refl
-relaid_end (c ∷ cs) (b ∷ bs) (a ∷ ns) store h = absurd (omega arith)
+relaid_end [] bs ns h store = refl
+relaid_end (c ∷ cs) [] ns h store = refl
+relaid_end (c ∷ cs) (b ∷ bs) [] h store = refl
+relaid_end (c ∷ cs) (b ∷ bs) (a ∷ ns) h store = absurd (omega arith)
 
--- One place after the other
-module _ (capacities before after : List ℕ) where
-  abbrev pub from_place : ℕ → Bytes → Bytes
-  from_place i = relaid (drop i capacities) (drop i before) (drop i after)
-
-  abbrev pub places : ℕ
-  places = min (length capacities) (min (length before) (length after))
-
-  pub relaid_walk : Walk capacities places (λ i. relaid_place (get_or before i 0) (get_or after i 0)) from_place
-  unfolding relaid
-  relaid_walk = record {
-    keeps = λ i. relaid-length (get_or before i 0) (get_or after i 0);
-    goes = λ i l s.
-        rw (drop-cons capacities i 0 (omega arith), drop-cons before i 0 (omega arith), drop-cons after i 0 (omega arith));
-    ends = λ i l s. relaid_end (drop i capacities) (drop i before) (drop i after) s (over i l);
-  }
-    where
-      over : (i : ℕ) → places ≤ i → min (length (drop i capacities)) (min (length (drop i before)) (length (drop i after))) ≡ 0
-      over i l =
-          let none : places - i ≡ 0 = omega arith in
-          rw (length-drop i capacities, length-drop i before, length-drop i after, ← less (length before) (length after) i)
-          (sym (less (length capacities) (min (length before) (length after)) i) ∙ none)
+pub relaid_goes : {cs bs ns cs' bs' ns' : List ℕ} {c b a : ℕ} → cs ≡ c ∷ cs' → bs ≡ b ∷ bs' → ns ≡ a ∷ ns' → (store : Bytes)
+    → relaid cs bs ns store ≡ relaid_place b a (take c store) ++ relaid cs' bs' ns' (drop c store)
+unfolding relaid
+relaid_goes e f g store = rw (e, f, g)

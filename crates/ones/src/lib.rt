@@ -1,7 +1,7 @@
 // Registers that hold 1s alone, each of which is its length: whether a lent memory has only such, and its store laid anew from the lengths.
 #![tactic(auto)]
 
-ghost use Rattle.std.specs.Prelude.{◌≡◌, ◌-◌, min, eqb, take, replicate};
+ghost use Rattle.std.specs.Prelude.{◌≡◌, ◌-◌, eqb, take, replicate};
 ghost use Rattle.std.proofs.lemmas.List.Edits.{sets};
 ghost use Rattle.theory.specs.Basics.{all};
 ghost use Rattle.rule10.specs.Lent.{memory, Sized};
@@ -11,17 +11,11 @@ use byte_runs::write_runs;
 use layout::{all_are, wide};
 use rule10::{is_memory, is_sized};
 
-fn shorter(a: usize, b: usize) -> usize
-    ensures { result ≡ min a b }
-{
-    if a < b { a } else { b }
-}
-
 // Whether the first n bytes of a place, or all that it has, are 1s.
 fn begins_with_ones(part: &[u8], n: usize) -> bool
     ensures { result ≡ all (eqb 49) (take n part.now) }
 {
-    let size = shorter(n, part.len());
+    let size = n.min(part.len());
     all_are(&part[..size], b'1')
 }
 
@@ -31,14 +25,12 @@ fn all_ones(capacities: &[u16], store: &[u8], lengths: &[u16]) -> bool
     ensures { result ≡ only_ones (memory capacities.now store.now lengths.now) }
 {
     let mut from: usize = 0;
-    let mut i: usize = 0;
-    while i < capacities.len() {
-        let to = from + wide(capacities[i]);
+    for (i, capacity) in capacities.iter().enumerate() {
+        let to = from + wide(*capacity);
         if !begins_with_ones(&store[from..to], wide(lengths[i])) {
             return false;
         }
         from = to;
-        i += 1;
     }
     true
 }
@@ -85,13 +77,10 @@ pub fn lay_ones(capacities: &[u16], store: &mut [u8], before: &[u16], after: &[u
     ensures { store.new ≡ relaid capacities.now before.now after.now
         store.old }
 {
-    let count = shorter(capacities.len(), shorter(before.len(), after.len()));
     let mut from: usize = 0;
-    let mut i: usize = 0;
-    while i < count {
-        let to = from + shorter(wide(capacities[i]), store.len() - from);
-        lay_place(&mut store[from..to], before[i], after[i]);
+    for (capacity, (old, new)) in capacities.iter().zip(before.iter().zip(after)) {
+        let to = from + wide(*capacity).min(store.len() - from);
+        lay_place(&mut store[from..to], *old, *new);
         from = to;
-        i += 1;
     }
 }

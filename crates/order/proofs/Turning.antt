@@ -1,4 +1,4 @@
--- Putting registers in order: one ring turned by way of a copy, and one place after the other.
+-- Putting registers in order: one ring turned by way of a copy, and its places, one after the other.
 use mathlib.Core.Path.{◌≡◌, refl, sym, ap, ◌∙◌}
 use mathlib.Core.Bool.{Bool, true, false}
 use mathlib.Core.List.{List, [], ◌∷◌, ◌++◌, append-nil}
@@ -6,12 +6,11 @@ use Prim.Native.Nat.{ℕ, ◌+◌, ◌-◌, ◌≤◌, ◌<◌, min}
 use native.Mathlib.Omega.{arith}
 use borrow.Author.Tests.{ltb-true, ltb-false, leb-true, leb-false, lt-leb, le-leb}
 use lib.Dec.{ltb, leb}
-use lib.ListN.{length, take, drop, get_or, length-append, length-drop, drop_of_length-le}
-use lib.Seq.{take_all, take_at, drop-cons, take-append-le, drop-append-le, length-take-le}
+use lib.ListN.{length, take, drop, length-append, length-drop, drop_of_length-le}
+use lib.Seq.{take_all, take_at, take-append-le, drop-append-le, length-take-le}
 use Rattle.theory.specs.Text.{Bytes}
 use Rattle.output.specs.Puts.{Put}
 use Rattle.output.proofs.Puts.{put_then, sets-front}
-use Rattle.layout.proofs.Walks.{Walk}
 use Rattle.order.specs.Order.{from_start, turned, in_order}
 
 -- Rings that stay as they are
@@ -66,22 +65,14 @@ turned_by {ring} {old} start room inside enough was front back =
     let none : drop (length turned) ring ≡ [] = drop_of_length-le ring {i = length turned} (omega arith) in
     (put_then front back).wrote ∙ rw (first, second) (sets-front ring turned (omega arith) ∙ rw none (append-nil turned))
 
--- Where either list ends, the rest stays as it is
-in_order_end : (cs ss : List ℕ) (store : Bytes) → min (length cs) (length ss) ≡ 0 → in_order cs ss store ≡ store
+-- One place after the other, while there are both a capacity and a start
+pub in_order_end : (cs ss : List ℕ) → min (length cs) (length ss) ≡ 0 → (store : Bytes) → in_order cs ss store ≡ store
 unfolding in_order
-in_order_end [] ss store h = refl
-in_order_end (c ∷ cs) [] store h = refl
-in_order_end (c ∷ cs) (s ∷ ss) store h = absurd (omega arith)
+in_order_end [] ss h store = refl
+in_order_end (c ∷ cs) [] h store = refl
+in_order_end (c ∷ cs) (s ∷ ss) h store = absurd (omega arith)
 
--- One place after the other
-module _ (capacities starts : List ℕ) where
-  abbrev pub from_place : ℕ → Bytes → Bytes
-  from_place i = in_order (drop i capacities) (drop i starts)
-
-  pub in_order_walk : Walk capacities (min (length capacities) (length starts)) (λ i. turned (get_or starts i 0)) from_place
-  unfolding in_order
-  in_order_walk = record {
-    keeps = λ i. turned-length (get_or starts i 0);
-    goes = λ i l s. rw (drop-cons capacities i 0 (omega arith), drop-cons starts i 0 (omega arith));
-    ends = λ i l s. in_order_end (drop i capacities) (drop i starts) s (omega (arith, length-drop i capacities, length-drop i starts));
-  }
+pub in_order_goes : {cs ss cs' ss' : List ℕ} {c s : ℕ} → cs ≡ c ∷ cs' → ss ≡ s ∷ ss' → (store : Bytes)
+    → in_order cs ss store ≡ turned s (take c store) ++ in_order cs' ss' (drop c store)
+unfolding in_order
+in_order_goes e f store = rw (e, f)

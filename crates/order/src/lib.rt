@@ -2,17 +2,11 @@
 // again.
 #![tactic(auto)]
 
-ghost use Rattle.std.specs.Prelude.{◌≡◌, min};
+ghost use Rattle.std.specs.Prelude.{◌≡◌};
 ghost use Rattle.order.specs.Order.{turned, in_order};
 
 use layout::{CAPACITY, wide};
 use output::put_bytes;
-
-fn shorter(a: usize, b: usize) -> usize
-    ensures { result ≡ min a b }
-{
-    if a < b { a } else { b }
-}
 
 // A ring, from its start on. One of more bytes than any machine's place stays as it is.
 fn turn(ring: &mut [u8], start: usize)
@@ -38,14 +32,10 @@ fn turn(ring: &mut [u8], start: usize)
 pub fn put_in_order(store: &mut [u8], starts: &[usize], capacities: &[u16])
     ensures { store.new ≡ in_order capacities.now starts.now store.old }
 {
-    let count = shorter(capacities.len(), starts.len());
     let mut from: usize = 0;
-    let mut i: usize = 0;
-    while i < count {
-        let size = shorter(wide(capacities[i]), store.len() - from);
-        let to = from + size;
-        turn(&mut store[from..to], starts[i]);
+    for (capacity, start) in capacities.iter().zip(starts) {
+        let to = from + wide(*capacity).min(store.len() - from);
+        turn(&mut store[from..to], *start);
         from = to;
-        i += 1;
     }
 }

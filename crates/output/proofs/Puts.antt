@@ -1,6 +1,6 @@
 -- Laws of bytes put at a place: one put after the other, what has no place, where there is room for all, and what a part then is.
 use mathlib.Core.Path.{◌≡◌, refl, sym, ap, ◌∙◌}
-use mathlib.Core.List.{[], ◌∷◌, ◌++◌, append-nil}
+use mathlib.Core.List.{[], ◌∷◌, ◌++◌, append-nil, append_assoc}
 use mathlib.Core.Bool.{Bool, true, false}
 use Prim.Native.Nat.{ℕ, suc, ◌+◌, ◌-◌, ◌<◌, ◌≤◌, min}
 use native.Mathlib.Nat.{zero-add, add-suc, add-zero}
@@ -9,7 +9,7 @@ use native.Mathlib.Omega.{arith}
 use lib.Dec.{ltb}
 use borrow.Author.Tests.{ltb-true, ltb-false}
 use lib.ListN.{length, get_or, take, drop, set, length-append, length-take, length-drop, take-append-drop, drop_of_length-le}
-use lib.Seq.{sets, sets-eq, length-sets, set_out, take-suc, length-take-le, take-length, take_all, take-set-le, drop-set-add}
+use lib.Seq.{drop-drop, sets, sets-eq, length-sets, set_out, take-suc, length-take-le, take-length, take_all, take-set-le, drop-set-add}
 use borrow.Rule.Slice.PartMut.{put_mid}
 use Rattle.theory.specs.Text.{Bytes}
 use Rattle.theory.proofs.Writes.{sets-append}
@@ -70,6 +70,10 @@ pub sets_more : (l m w : Bytes) (at i : ℕ) → i < length w → m ≡ sets l a
     → set m (at + i) (get_or w i 0) ≡ sets l at (take (i + 1) w)
 sets_more l m w at i h e =
     rw (e, add-one i, take-suc w i 0 h, sets-append (take i w) (get_or w i 0 ∷ []) l at, length-take-le i w (omega arith))
+
+-- Bytes written over as many, inside
+pub sets_mid : (u l : Bytes) (i k : ℕ) → k ≡ length u → i + k ≤ length l → put_mid i k l u ≡ sets l i u
+sets_mid u l i k e h = rw (e, drop-drop (length u) i l) (rw (← append_assoc) (sym (sets-eq u l i (omega (arith, e)))))
 
 -- At the front, where there is room: the bytes, and what was after them
 pub sets-front : (l w : Bytes) → length w ≤ length l → sets l 0 w ≡ w ++ drop (length w) l

@@ -1,6 +1,6 @@
 -- The numbers that tell a setting and a form, and the one number that each entry hands back: what came of the call, with its counts, or
 -- with a refusal's number and place.
-use Rattle.std.specs.Prelude.{cond, List, ℕ, ◌+◌, ◌*◌, ◌%◌, ◌^◌, eqb, length}
+use Rattle.std.specs.Prelude.{cond, List, ℕ, ◌+◌, ◌*◌, ◌%◌, ◌^◌, eqb, length, Result, Ok, Err}
 use Rattle.theory.specs.ProgramText.{Command, variables}
 use Rattle.theory.specs.Runs.{Outcome}
 use Rattle.theory.specs.Machines.{Value, valued, untidy}
@@ -37,6 +37,11 @@ end_number Full = 4
 -- A refusal: the rule's number and the place
 abbrev pub refusal : Refusal → ℕ
 refusal r = pack 255 r.number r.place
+
+-- An answer of one count, as code hands it back
+abbrev pub counted : Result ℕ Refusal → ℕ
+counted (Ok n) = pack 0 0 n
+counted (Err r) = refusal r
 
 -- A result, packed by f, or the refusal
 unfoldable pub packed : {A : Type 0} → (A → ℕ) → Answer A → ℕ

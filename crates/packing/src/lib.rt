@@ -3,7 +3,7 @@
 #![tactic(auto)]
 
 ghost use Rattle.std.specs.Prelude.{◌≡◌};
-ghost use Rattle.packing.specs.Packed.{setting_of, form_of, pack};
+ghost use Rattle.packing.specs.Packed.{setting_of, form_of, pack, counted};
 
 use theory::{Refusal, Setting};
 use tidy::Form;
@@ -33,6 +33,16 @@ pub fn pack(what: u8, high: usize, low: usize) -> u64
     let top = what as u64 * 0x100_0000_0000_0000;
     let middle = high as u64 % 0x1_0000 * 0x1_0000_0000;
     top + middle + low as u64 % 0x1_0000_0000
+}
+
+// An answer of one count: instructions read, symbols or bytes written.
+pub fn counted(answer: Result<usize, Refusal>) -> u64
+    ensures { result ≡ counted answer }
+{
+    match answer {
+        Ok(count) => pack(0, 0, count),
+        Err(r) => refused(r),
+    }
 }
 
 // A refusal.

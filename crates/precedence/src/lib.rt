@@ -4,9 +4,9 @@
 ghost use Rattle.std.specs.Prelude.{◌≡◌};
 ghost use Rattle.memory.specs.Calls.{memory, refused_at, after_10};
 
-use memory::{Ended, Position, Run};
+use memory::{Position, Run};
 use rule10::is_memory;
-use theory::Refusal;
+use theory::{Refusal, refused};
 
 // A call that a rule after 10 turns down: rule 10 goes before.
 pub fn turned_down(
@@ -21,14 +21,11 @@ pub fn turned_down(
     if is_memory(capacities, store, lengths) {
         return Run {
             position: at,
-            ended: Ended::Refused(r),
+            ended: Err(r),
         };
     }
     Run {
         position: at,
-        ended: Ended::Refused(Refusal {
-            number: 10,
-            place: 0,
-        }),
+        ended: refused(10, 0),
     }
 }

@@ -5,7 +5,7 @@ use Rattle.theory.specs.RunTool.{end_name, printed}
 use Rattle.theory.specs.TurnedDown.{refused}
 use Rattle.theory.specs.declared.Refusal.{Refusal}
 use Rattle.output.specs.Puts.{Put}
-use Rattle.printing.specs.declared.Ended.{Ended}
+use Rattle.theory.specs.declared.Ended.{Ended}
 use Rattle.printing.specs.declared.Row.{Row}
 
 -- A text of so many bytes at most was put from a place on

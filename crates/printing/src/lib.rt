@@ -8,17 +8,10 @@ ghost use Rattle.printing.specs.Lines.{Few, field, ended, row_line, refusal_line
 
 use decimals::put_number;
 use output::{put_byte, put_bytes};
-use theory::{End, Refusal};
-
-// How a run ended, and the steps that it took.
-#[derive(Clone, Copy)]
-pub struct Ended {
-    pub end: End,
-    pub steps: u32,
-}
+use theory::{End, Ended, Refusal};
 
 // What is printed of a row: the source's run, its word's, and the source's X0 then.
-#[derive(Drop)]
+#[derive(Clone, Copy)]
 pub struct Row {
     pub source: Ended,
     pub word: Ended,

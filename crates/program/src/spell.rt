@@ -13,11 +13,9 @@ pub fn text_size(list: &[u8]) -> usize
     requires { program_fault (listed list.now) ≡ none }
     ensures { result ≡ length (text_of (present (listed list.now))) }
 {
-    let mut i = 0;
     let mut size = 0;
-    while i + 2 < list.len() {
-        size += command_size(list[i], list[i + 1], list[i + 2]);
-        i += 3;
+    for n in 0..list.len() / 3 {
+        size += command_size(list[3 * n], list[3 * n + 1], list[3 * n + 2]);
     }
     size
 }
@@ -27,10 +25,8 @@ pub fn put_text(list: &[u8], text: &mut [u8])
     requires { program_fault (listed list.now) ≡ none }
     ensures { text.new ≡ sets text.old 0 (text_of (present (listed list.now))) }
 {
-    let mut i = 0;
     let mut at = 0;
-    while i + 2 < list.len() {
-        at = put_command(text, at, list[i], list[i + 1], list[i + 2]);
-        i += 3;
+    for n in 0..list.len() / 3 {
+        at = put_command(text, at, list[3 * n], list[3 * n + 1], list[3 * n + 2]);
     }
 }

@@ -7,16 +7,14 @@ ghost use Rattle.tally.specs.Tallies.{tally_of};
 ghost use Rattle.record_counting.specs.Counted.{answer_count, no_tally};
 
 use tally::{Tally, with_entry};
-use word::{Instruction, Read};
+use theory::Refusal;
+use word::Instruction;
 
 // The number of instructions of an answer; none where it is a refusal.
-pub fn count_of(r: Read) -> usize
-    ensures { result ≡ answer_count r }
+pub fn count_of(answer: Result<usize, Refusal>) -> usize
+    ensures { result ≡ answer_count answer }
 {
-    match r {
-        Read::Done(n) => n,
-        Read::Refused(_) => 0,
-    }
+    answer.unwrap_or(0)
 }
 
 fn empty_tally() -> Tally
@@ -34,11 +32,8 @@ pub fn count_table(table: &[Instruction]) -> Tally
     ensures { result ≡ tally_of (entries_of table.now) }
 {
     let mut t = empty_tally();
-    let mut i: usize = 0;
-    while i < table.len() {
-        let e = table[i];
+    for e in table {
         t = with_entry(t, e.kind, e.operand);
-        i += 1;
     }
     t
 }

@@ -1,4 +1,5 @@
 -- A table of records that is filled from a word: its entries after so many turns, and where the next instruction starts.
+use Rattle.std.specs.Prelude.{Result, Ok, Err}
 use mathlib.Core.Path.{◌≡◌, refl, sym, ap, ◌∙◌}
 use mathlib.Core.Bool.{Bool, true, false}
 use mathlib.Core.Option.{Option, none, some}
@@ -13,8 +14,6 @@ use borrow.Author.Tests.{leb-true}
 use Rattle.theory.specs.TurnedDown.{word_entries, word_fault, total, read_word, rule_19, done, lent_after}
 use Rattle.theory.specs.declared.Refusal.{Refusal}
 use Rattle.word.specs.declared.answers.Instruction.{Instruction}
-use Rattle.word.specs.declared.answers.Read.{Read}
-use Rattle.word.specs.declared.answers.Read.TheVariants.{Done, Refused}
 use Rattle.word.specs.declared.answers.Item.{Item}
 use Rattle.word.specs.Answers.{record_of, records_of, read_answer}
 use Rattle.record_reading.specs.Answers.{ReadsTable}
@@ -76,7 +75,7 @@ module _ (w : List ℕ) (n : ℕ) (table : List Instruction) (p : Storable w n t
       start-more = rw q (item-along w fine (start w j) j here inside).start
 
 -- The whole reader: what it measured, what it stored, and what it hands back
-module _ (w : List ℕ) (table : List Instruction) (r : Read) (n : ℕ) (m : r ≡ read_answer (measured (length table) w)) (c : n ≡
+module _ (w : List ℕ) (table : List Instruction) (r : Result ℕ Refusal) (n : ℕ) (m : r ≡ read_answer (measured (length table) w)) (c : n ≡
     answer_count r) where
   abbrev t : List Entry
   t = word_entries w
@@ -98,15 +97,15 @@ module _ (w : List ℕ) (table : List Instruction) (r : Read) (n : ℕ) (m : r �
   by_faults : (o : Option Refusal) → word_fault w ≡ o → (b : Bool) → leb (length t) (length table) ≡ b → Both
   unfolding read_word measured rule_19 lent_after
   by_faults (some f) e b q =
-      let a : r ≡ Refused f = rw e at m in
+      let a : r ≡ Err f = rw e at m in
       let none_kept : _ = nothing_stored (c ∙ ap answer_count a) in
       (none_kept.0, λ table' s. (rw e a, rw e (s ∙ none_kept.1)))
   by_faults none e false q =
-      let a : r ≡ Refused (record { number = 19; place = 0 }) = rw (e, q) at m in
+      let a : r ≡ Err (record { number = 19; place = 0 }) = rw (e, q) at m in
       let none_kept : _ = nothing_stored (c ∙ ap answer_count a) in
       (none_kept.0, λ table' s. (rw (e, q) a, rw (e, q) (s ∙ none_kept.1)))
   by_faults none e true q =
-      let a : r ≡ Done (length t) = rw (e, q) at m in
+      let a : r ≡ Ok (length t) = rw (e, q) at m in
       let all : n ≡ length t = c ∙ ap answer_count a in
       let room : length t ≤ length table = leb-true (length t) (length table) q in (
         record { room = omega arith; within = omega arith; passed = λ h. e },

@@ -8,21 +8,18 @@ ghost use Rattle.record_reading.specs.Answers.{ReadsTable};
 ghost use Rattle.record_reading.specs.Storing.{measured, Storable, stored};
 
 use record_counting::count_of;
-use word::{Instruction, Read, item_at, measure, refused};
+use theory::{Refusal, refused};
+use word::{Instruction, item_at, measure};
 
 // Rules 11 to 14, and then 19 for a lent table of so many entries.
-fn measure_for(word: &[u8], room: usize) -> Read
+fn measure_for(word: &[u8], room: usize) -> Result<usize, Refusal>
     ensures { result ≡ read_answer (measured room word.now) }
 {
-    match measure(word) {
-        Read::Done(n) => {
-            if room < n {
-                return refused(19, 0);
-            }
-            Read::Done(n)
-        }
-        Read::Refused(r) => Read::Refused(r),
+    let count = measure(word)?;
+    if room < count {
+        return refused(19, 0);
     }
+    Ok(count)
 }
 
 // Stores the word's first `count` instructions.
@@ -31,20 +28,18 @@ fn store(word: &[u8], count: usize, table: &mut [Instruction])
     ensures { table.new ≡ stored word.now count table.old }
 {
     let mut at: usize = 0;
-    let mut i: usize = 0;
-    while i < count {
+    for i in 0..count {
         let e = item_at(word, at);
         at = e.next;
         table[i] = Instruction {
             kind: e.kind,
             operand: e.operand,
         };
-        i += 1;
     }
 }
 
 // Reads a word into a lent table of records: rules 11 to 14, then 19.
-pub fn read_table(word: &[u8], table: &mut [Instruction]) -> Read
+pub fn read_table(word: &[u8], table: &mut [Instruction]) -> Result<usize, Refusal>
     ensures { ReadsTable word.now table.old result table.new }
 {
     let answer = measure_for(word, table.len());

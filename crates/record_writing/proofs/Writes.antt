@@ -1,4 +1,6 @@
 -- A table of records that is written as a word, record by record: what is written after so many turns, and all of it by the answer.
+use Rattle.theory.specs.declared.Refusal.{Refusal}
+use Rattle.std.specs.Prelude.{Result, Ok, Err}
 use mathlib.Core.Path.{◌≡◌, refl, ap, ◌∙◌}
 use mathlib.Core.List.{List, [], ◌∷◌}
 use Prim.Native.Nat.{ℕ, ◌+◌, ◌≤◌, ◌<◌}
@@ -13,8 +15,6 @@ use Rattle.output.proofs.Puts.{put-length, sets-starting}
 use Rattle.instruction.specs.Instructions.{text, Spelt}
 use Rattle.instruction.proofs.Instructions.{spelt_none, spelt_more}
 use Rattle.word.specs.declared.answers.Instruction.{Instruction}
-use Rattle.word.specs.declared.answers.Written.{Written}
-use Rattle.word.specs.declared.answers.Written.TheVariants.{Done, Refused}
 use Rattle.word.specs.Answers.{entry_of, entries_of, WritesInto}
 use Rattle.tally.specs.declared.Tally.{Tally}
 use Rattle.tally.specs.Tallies.{tally_of, answered}
@@ -46,7 +46,7 @@ module _ (table : List Instruction) (word : Bytes) where
     spelling_end n e = p.spelt.put.wrote ∙ rw e (sets-starting (text (take n (entries_of table))) word)
 
 -- The whole writer: the tally of the table, what is answered by it, how many records are written, and the word then
-module _ (table : List Instruction) (word word' : Bytes) (d : Tally) (q : d ≡ tally_of (entries_of table)) (r : Written) (a : r ≡ answered
+module _ (table : List Instruction) (word word' : Bytes) (d : Tally) (q : d ≡ tally_of (entries_of table)) (r : Result ℕ Refusal) (a : r ≡ answered
     d (length word)) (m : ℕ) (c : m ≡ written_count r (length table)) where
   abbrev t : List Entry
   t = entries_of table
@@ -54,9 +54,9 @@ module _ (table : List Instruction) (word word' : Bytes) (d : Tally) (q : d ≡ 
   pub count-within : m ≤ length table
   count-within = go r c
     where
-      go : (r : Written) → m ≡ written_count r (length table) → m ≤ length table
-      go (Done n) e = omega arith
-      go (Refused f) e = omega arith
+      go : (r : Result ℕ Refusal) → m ≡ written_count r (length table) → m ≤ length table
+      go (Ok n) e = omega arith
+      go (Err f) e = omega arith
 
   -- Nothing is written where it is refused
   starting_none : starting (text []) word ≡ word
@@ -66,12 +66,12 @@ module _ (table : List Instruction) (word word' : Bytes) (d : Tally) (q : d ≡ 
   pub writes_table : word' ≡ starting (text (take m t)) word → WritesInto t word r word'
   writes_table w = go r refl
     where
-      go : (s : Written) → r ≡ s → WritesInto t word s word'
-      go (Done n) e =
-          let count : m ≡ length table = c ∙ ap (λ (s : Written). written_count s (length table)) e in
+      go : (s : Result ℕ Refusal) → r ≡ s → WritesInto t word s word'
+      go (Ok n) e =
+          let count : m ≡ length table = c ∙ ap (λ (s : Result ℕ Refusal). written_count s (length table)) e in
           let all : take m t ≡ t = take_all m t (omega (arith, length-map table entry_of)) in
           wrote t word d q r a n e word' (w ∙ rw all)
-      go (Refused f) e =
-          let count : m ≡ 0 = c ∙ ap (λ (s : Written). written_count s (length table)) e in
+      go (Err f) e =
+          let count : m ≡ 0 = c ∙ ap (λ (s : Result ℕ Refusal). written_count s (length table)) e in
           let none : word' ≡ word = w ∙ rw count starting_none in
           rw none (left t word d q r a f e)

@@ -11,7 +11,8 @@ use record_counting::{count_of, count_table};
 pub use record_reading::read_table;
 pub use record_writing::write_table;
 use tally::{Tally, judge};
-use word::{Instruction, Read};
+use theory::Refusal;
+use word::Instruction;
 
 // A table of records as numbers: its kinds and operands with 0s after them, and the number of its instructions; 0s alone, and why, where
 // it is turned down.
@@ -19,7 +20,7 @@ use word::{Instruction, Read};
 pub struct Gathered {
     pub kinds: [u8; Instruction::INSTRUCTIONS],
     pub operands: [u32; Instruction::INSTRUCTIONS],
-    pub answer: Read,
+    pub answer: Result<usize, Refusal>,
 }
 
 // The kinds and operands of a table's first entries, and 0s after them.
@@ -36,12 +37,9 @@ fn copied(table: &[Instruction], count: usize) -> Numbers
 {
     let mut kinds = [0u8; Instruction::INSTRUCTIONS];
     let mut operands = [0u32; Instruction::INSTRUCTIONS];
-    let mut i: usize = 0;
-    while i < count {
-        let e = table[i];
+    for (i, e) in table[..count].iter().enumerate() {
         kinds[i] = e.kind;
         operands[i] = e.operand;
-        i += 1;
     }
     Numbers { kinds, operands }
 }

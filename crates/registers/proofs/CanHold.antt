@@ -1,4 +1,5 @@
 -- Whether a memory can hold a fresh word's registers, one test after the other; and what holds where it can.
+use Rattle.std.specs.Prelude.{Err, Ok}
 use mathlib.Core.Path.{◌≡◌, refl}
 use mathlib.Core.Bool.{Bool, true, false, ◌&&◌}
 use mathlib.Core.List.{List}
@@ -15,7 +16,6 @@ use Rattle.theory.proofs.Faults.{and_first, and_second}
 use Rattle.theory.proofs.GoodMemory.{both, all_below-at, all_below_fails}
 use Rattle.registers.specs.Held.{Held}
 use Rattle.registers.specs.Fresh.{values_within, can_hold, fresh_registers, fresh_memory, LaysFresh}
-use Rattle.registers.specs.declared.Laid.TheVariants as Laid
 
 module _ (m : Memory) (values : List ℕ) where
   pub not-sized : is_sized m ≡ false → can_hold m values ≡ false
@@ -82,11 +82,11 @@ holds_each m values h =
 
 -- What the call hands back, then
 module _ (m : Memory) (values : List ℕ) where
-  pub lays_none : can_hold m values ≡ false → LaysFresh m values (Laid.Refused (record { number = 10; place = 0 })) m.store m.lengths
+  pub lays_none : can_hold m values ≡ false → LaysFresh m values (Err (record { number = 10; place = 0 })) m.store m.lengths
   unfolding fresh_memory
   lays_none h = record { is = rw h; store = rw h; lengths = rw h }
 
   pub lays_all : can_hold m values ≡ true → (s : Bytes) (l : List ℕ) → Held m.capacities (fresh_registers values) s l
-      → LaysFresh m values Laid.Done s l
+      → LaysFresh m values (Ok tt) s l
   unfolding fresh_memory
   lays_all h s l held = record { is = rw h; store = rw h held.stored; lengths = rw h held.counted }

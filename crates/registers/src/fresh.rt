@@ -9,22 +9,14 @@ use byte_runs::write_runs;
 use layout::{capacity_at, offsets};
 use rule10::is_sized;
 
-fn wide(x: u32) -> usize
-    ensures { result ≡ x }
-{
-    x as usize
-}
-
 // Whether each value is within the capacity of its register.
 fn all_within(capacities: &[u16], values: &[u32]) -> bool
     ensures { result ≡ values_within capacities.now values.now }
 {
-    let mut i: usize = 0;
-    while i < values.len() {
-        if capacity_at(capacities, i) < wide(values[i]) {
+    for (i, value) in values.iter().enumerate() {
+        if capacity_at(capacities, i) < *value as usize {
             return false;
         }
-        i += 1;
     }
     true
 }
@@ -55,7 +47,10 @@ fn lay(part: &mut [u8], n: usize)
 fn held(values: &[u32], i: usize) -> usize
     ensures { result ≡ get_or values.now i 0 }
 {
-    if i < values.len() { wide(values[i]) } else { 0 }
+    match values.get(i) {
+        Some(value) => *value as usize,
+        None => 0,
+    }
 }
 
 // Fills every register's place, and the lengths.
@@ -64,13 +59,11 @@ pub fn fill(capacities: &[u16], store: &mut [u8], lengths: &mut [u16], values: &
     ensures { Held capacities.now (fresh_registers values.now) store.new lengths.new }
 {
     let places = offsets(capacities);
-    let mut i = 0;
-    while i < lengths.len() {
+    for (i, length) in lengths.iter_mut().enumerate() {
         let n = held(values, i);
         let from = places[i];
         let to = places[i + 1];
         lay(&mut store[from..to], n);
-        lengths[i] = n as u16;
-        i += 1;
+        *length = n as u16;
     }
 }

@@ -7,7 +7,7 @@ ghost use Rattle.rule10.specs.Lent.{memory};
 ghost use Rattle.registers.specs.Fresh.{LaysFresh};
 
 use fresh::{fill, fits};
-use theory::Refusal;
+use theory::{Refusal, refused};
 
 // A machine of the set is lent as three lists: each register's capacity, the store, and the lengths. This name carries its limits and its
 // fresh registers.
@@ -21,24 +21,19 @@ impl Machine {
 
     // A fresh word's registers, laid out in a lent store and lengths: register i + 1 holds as many 1s as value i, and every other register
     // is empty. Rule 10 where the sizes are not the machine's, or a value has no register that can hold it.
-    pub fn fresh(capacities: &[u16], store: &mut [u8], lengths: &mut [u16], values: &[u32]) -> Laid
+    pub fn fresh(
+        capacities: &[u16],
+        store: &mut [u8],
+        lengths: &mut [u16],
+        values: &[u32],
+    ) -> Result<(), Refusal>
         ensures { LaysFresh (memory capacities.now store.old lengths.old) values.now
             result store.new lengths.new }
     {
         if !fits(capacities, &*store, &*lengths, values) {
-            return Laid::Refused(Refusal {
-                number: 10,
-                place: 0,
-            });
+            return refused(10, 0);
         }
         fill(capacities, store, lengths, values);
-        Laid::Done
+        Ok(())
     }
-}
-
-// A fresh word's registers stand in the lent memory, or why not.
-#[derive(Drop)]
-pub enum Laid {
-    Done,
-    Refused(Refusal),
 }

@@ -21,8 +21,8 @@ use Rattle.source_state.specs.declared.Run.{Run}
 use Rattle.source_state.specs.declared.State.{State}
 use Rattle.capacities.specs.Room.{of_variables}
 use Rattle.report_text.specs.Fresh.{values_of, IsSet, Starts}
-use Rattle.report_text.specs.Rows.{ended_of, source_ended, row_of, Ready, Tabled, Ran}
-use Rattle.printing.specs.declared.Ended.{Ended}
+use Rattle.report_text.specs.Rows.{ended_of, run_ended, row_of, Ready, Tabled, Ran}
+use Rattle.theory.specs.declared.Ended.{Ended}
 use Rattle.report_text.proofs.Starting.{source_passes, source_runs, source_within, first-within, word-within}
 
 -- The word of an accepted program passes rules 11 to 14
@@ -41,9 +41,9 @@ module _ (capacities : List ℕ) (set : IsSet capacities) (p : List Command) (va
   source_answer = rw (accepted, source_passes capacities set p values h) (ap done (source_runs capacities set p values h))
 
   module _ (r : Run) (back : HandsBack start (after (read_list list) (run_from (source_state start) 100000)) r) where
-    pub source_ends : source_ended r.ended ≡ ended_of (source_on capacities p (values_of values))
+    pub source_ends : run_ended r.ended ≡ ended_of (source_on capacities p (values_of values))
     unfolding ended_by
-    source_ends = ap {B = Ended} source_ended (back.ended ∙ ap ended_by source_answer)
+    source_ends = ap {B = Ended} run_ended (back.ended ∙ ap ended_by source_answer)
 
     pub source_first : get_or r.state.values 0 0 ≡ (source_on capacities p (values_of values)).state.values 0
     unfolding state_by
@@ -67,7 +67,7 @@ module _ (capacities : List ℕ) (set : IsSet capacities) (list kinds operands :
   pub row-ran : (r : Run)
       → HandsBack (fresh_state (of_variables capacities) values)
       (after (read_list list) (run_from (source_state (fresh_state (of_variables capacities) values)) 100000)) r
-      → (source_run word-run : Ended) → source_run ≡ source_ended r.ended
+      → (source_run word-run : Ended) → source_run ≡ run_ended r.ended
       → ((q : List Command) → Accepted q → zipped kinds operands ≡ word_entries (word_text q) → K ≡ variables q
       → word-run ≡ ended_of (word_on capacities q (values_of values)))
       → Ran capacities (commands list) (values_of values)

@@ -1,9 +1,10 @@
 -- A line of values, as crate sheet reads it: the values that its run starts at, and where the next line begins.
+use Rattle.std.specs.Prelude.{Result, Ok, Err}
 use mathlib.Core.Path.{◌≡◌, refl, sym, ap, ap₂, subst, ◌∙◌}
 use mathlib.Core.Bool.{true}
 use mathlib.Core.Option.{Option, none, some}
 use mathlib.Core.List.{List, []}
-use Prim.Native.Nat.{ℕ, min, ◌-◌, ◌≤◌}
+use Prim.Native.Nat.{ℕ, min, ◌≤◌}
 use native.Mathlib.Omega.{arith}
 use lib.Dec.{ltb}
 use lib.ListN.{length}
@@ -12,18 +13,18 @@ use Rattle.theory.specs.Basics.{cells, all, default}
 use Rattle.theory.specs.Text.{Bytes, split_lines}
 use Rattle.theory.specs.ProgramText.{above}
 use Rattle.theory.specs.RunSheet.{values, start, distinct}
-use Rattle.theory.specs.TurnedDown.{values_fault, sheet_fault_for, names_of}
+use Rattle.theory.specs.TurnedDown.{values_fault, sheet_fault_for}
 use Rattle.theory.specs.declared.Refusal.{Refusal}
 use Rattle.columns.specs.Columns.{starts}
 use Rattle.sheet.specs.Answers.{names_record, line_at, after_line, columns_of, starts_as, row_answer}
-use Rattle.sheet.specs.Answers.{checked_as, sheet_answer}
+use Rattle.sheet.specs.Answers.{unless_refused, sheet_record, sheet_answer}
 use Rattle.sheet.specs.declared.answers.Names.{Names}
 use Rattle.sheet.specs.declared.answers.Sheet.{Sheet}
-use Rattle.sheet.specs.declared.answers.Checked.TheVariants as C
 use Rattle.capacities.specs.Room.{of_variables}
 use Rattle.report_text.specs.Rows.{Given}
 use Rattle.columns.proofs.Padded.{padded-take}
 use Rattle.columns.proofs.Distinct.{different_below}
+use Rattle.sheet.proofs.Along.{passes as unrefused, refuses}
 use Rattle.sheet.proofs.Judged.{above_below}
 
 all_low : (K : ℕ) (ns : List ℕ) → above ns ≤ K → all (λ n. ltb n K) ns ≡ true
@@ -58,25 +59,16 @@ unfolding row_answer
 row_next limits s names n at = refl
 
 -- A sheet that is checked for a program of K variables
-module _ (capacities : List ℕ) (K : ℕ) (s : Bytes) (few : K ≤ 32) (found : Sheet)
+module _ (capacities : List ℕ) (K : ℕ) (s : Bytes) (few : K ≤ 32) (found : Result Sheet Refusal)
     (e : found ≡ sheet_answer (min K 32) (of_variables capacities) s) where
-  found_as : found ≡ checked_as (sheet_fault_for K (of_variables capacities) s) (names_of (split_lines s)) (length (split_lines s) - 1)
+  found_as : found ≡ unless_refused (sheet_fault_for K (of_variables capacities) s) (sheet_record (split_lines s))
   unfolding sheet_answer
   found_as = let least : min K 32 ≡ K = omega arith in rw least at e
 
-  pub found_refused : (r : Refusal) → found.checked ≡ C.Refused r → sheet_fault_for K (of_variables capacities) s ≡ some r
-  found_refused r h = go (sheet_fault_for K (of_variables capacities) s) (sym h ∙ ap (λ f. f.checked) found_as)
-    where
-      go : (o : Option Refusal) → C.Refused r ≡ (checked_as o (names_of (split_lines s)) (length (split_lines s) - 1)).checked → o ≡ some r
-      go none k = cc
-      go (some x) k = cc
+  pub found_refused : (r : Refusal) → found ≡ Err r → sheet_fault_for K (of_variables capacities) s ≡ some r
+  found_refused r h = refuses (sheet_fault_for K (of_variables capacities) s) (sheet_record (split_lines s)) (sym h ∙ found_as)
 
-  pub found_accepted : (rows : ℕ) → found.checked ≡ C.Accepted rows → Given capacities s found.names K
-  found_accepted rows h = go (sheet_fault_for K (of_variables capacities) s) refl (sym h ∙ ap (λ f. f.checked) found_as)
-      (ap (λ f. f.names) found_as)
-    where
-      go : (o : Option Refusal) → sheet_fault_for K (of_variables capacities) s ≡ o
-          → C.Accepted rows ≡ (checked_as o (names_of (split_lines s)) (length (split_lines s) - 1)).checked
-          → found.names ≡ (checked_as o (names_of (split_lines s)) (length (split_lines s) - 1)).names → Given capacities s found.names K
-      go none p k n = record { passes = p; columns = n }
-      go (some x) p k n = absurd (let z : ◌≡◌ {A = ℕ} 0 1 = cc in omega arith)
+  pub found_accepted : (sheet : Sheet) → found ≡ Ok sheet → Given capacities s sheet.names K
+  found_accepted sheet h =
+      let told : _ = unrefused (sheet_fault_for K (of_variables capacities) s) (sheet_record (split_lines s)) (sym h ∙ found_as) in
+      record { passes = told.0; columns = ap (λ (f : Sheet). f.names) told.1 }

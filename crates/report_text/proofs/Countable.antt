@@ -9,6 +9,7 @@ use borrow.Author.Tests.{lt-ltb, le-leb}
 use lib.Dec.{eqb}
 use lib.IntN.{pos}
 use lib.ListN.{length, get_or}
+use Rattle.std.specs.Prelude.{Option, Some, None}
 use Rattle.theory.specs.Basics.{all, EachOf}
 use Rattle.theory.specs.ProgramText.{Plain, clear, increment, copy, Kind, loop, while, Command, variables, Block, empty, single, pair}
 use Rattle.theory.specs.ProgramText.{lines, block_of}
@@ -32,12 +33,10 @@ use Rattle.registers.specs.Fresh.{fresh_registers, values_within}
 use Rattle.usable.specs.Usable.{most_operand, unusable, first_unusable}
 use Rattle.countable.specs.Countable.{no_2, is_countable}
 use Rattle.counts.specs.Counts.{counted_outcome, CountsTo}
-use Rattle.counts.specs.declared.Counted.{Counted}
-use Rattle.counts.specs.declared.Counted.TheVariants.{Ran, Other}
 use Rattle.countable.proofs.Tested.{by_kinds, by_search}
-use Rattle.printing.specs.declared.Ended.{Ended}
+use Rattle.theory.specs.declared.Ended.{Ended}
 use Rattle.report_text.specs.Fresh.{values_of, IsSet, Starts}
-use Rattle.report_text.specs.Rows.{ended_of, word_ended}
+use Rattle.report_text.specs.Rows.{ended_of, run_ended}
 use Rattle.report_text.proofs.Sets.{registers}
 use Rattle.report_text.proofs.Fresh.{same-registers}
 
@@ -114,11 +113,11 @@ usable_from most few n (i ∷ w) f l s =
       usable_from most few (suc n) w f.1 (omega arith) (omega arith),
     )
 
-same-run : (s t : Run) → ◌≡◌ {A = Counted} (Ran s) (Ran t) → s ≡ t
+same-run : (s t : Run) → ◌≡◌ {A = Option Run} (Some s) (Some t) → s ≡ t
 same-run s t e = cc
 
-ran_not_other : (s : Run) → ◌≡◌ {A = Counted} (Ran s) Other → ⊥
-ran_not_other s e = let z : ◌≡◌ {A = ℕ} 0 1 = cc in absurd (omega arith)
+some_not_none : (s : Run) → ◌≡◌ {A = Option Run} (Some s) None → ⊥
+some_not_none s e = let z : ◌≡◌ {A = ℕ} 0 1 = cc in absurd (omega arith)
 
 -- The word of an accepted program
 
@@ -170,18 +169,18 @@ module _ (p : List Command) (accepted : Accepted p) where
           ap₂ {C = Outcome W.State} runs word held
 
       -- What the run on lengths hands back is the definition's, and there is such a run
-      module _ (named : length values ≡ variables p) (at : Position) (begins : at ≡ record { place = pos 1; steps = 0 }) (r : Counted)
+      module _ (named : length values ≡ variables p) (at : Position) (begins : at ≡ record { place = pos 1; steps = 0 }) (r : Option Run)
           (after : List ℕ) (counts : CountsTo (is_countable capacities lengths kinds operands) capacities lengths at
           (counted_outcome capacities lengths at kinds operands 1000000) r after) where
         ran : CountsTo true capacities lengths at (counted_outcome capacities lengths at kinds operands 1000000) r after
         ran = rw row_countable at counts
 
-        pub counted-ends : (s : Run) → r ≡ Ran s → word_ended s.ended ≡ ended_of (word_on capacities p (values_of values))
+        pub counted-ends : (s : Run) → r ≡ Some s → run_ended s.ended ≡ ended_of (word_on capacities p (values_of values))
         counted-ends s e =
             let is_run : ran.0 ≡ s = same-run ran.0 s (sym ran.1 ∙ e) in
             let same_start : counted_outcome capacities lengths at kinds operands 1000000 ≡ word_on capacities p (values_of values) =
             ap {B = Outcome W.State} (λ z. counted_outcome capacities lengths z kinds operands 1000000) begins ∙ row-counted named in
-            ap {B = Ended} (λ z. word_ended z.ended) (sym is_run ∙ ran.2.is) ∙ ap {B = Ended} ended_of same_start
+            ap {B = Ended} (λ z. run_ended z.ended) (sym is_run ∙ ran.2.is) ∙ ap {B = Ended} ended_of same_start
 
-        pub never_other : r ≡ Other → ⊥
-        never_other e = ran_not_other ran.0 (sym ran.1 ∙ e)
+        pub never_none : r ≡ None → ⊥
+        never_none e = some_not_none ran.0 (sym ran.1 ∙ e)

@@ -1,4 +1,5 @@
 -- A program read into a lent list that has room for any: rule 19 never applies, and the list begins with the program's numbers.
+use Rattle.std.specs.Prelude.{Ok, Err}
 use mathlib.Core.Path.{◌≡◌, refl, sym, ap, subst, ◌∙◌}
 use mathlib.Core.List.{List, ◌++◌}
 use Prim.Native.Nat.{ℕ, ◌*◌, ◌≤◌}
@@ -17,7 +18,6 @@ use Rattle.theory.proofs.Lists.{lists_round_trip, commands_list}
 use Rattle.list.proofs.Lists.{list_length}
 use Rattle.list.specs.Answers.{program_of, checked}
 use Rattle.list.specs.declared.Program.{Program}
-use Rattle.list.specs.declared.Checked.TheVariants as C
 use Rattle.report_text.specs.Rows.{Listed}
 
 list_accepted : (p : List Command) → Accepted p → read_list (list_of p) ≡ done (commands (list_of p))
@@ -58,10 +58,10 @@ module _ (lent t : Bytes) (size : length lent ≡ 1536) where
           let fits : length (list_of p) ≤ length lent = omega (arith, list_length p, size) in
           rw (e, le-leb (length (list_of p)) (length lent) fits)
 
-  pub text-turned_down : (r : Refusal) → C.Refused r ≡ checked (read_program_into Any lent t) → read_text t ≡ refused r
+  pub text-turned_down : (r : Refusal) → Err r ≡ checked (read_program_into Any lent t) → read_text t ≡ refused r
   text-turned_down r e = go (read_text t) refl (e ∙ ap checked room_for_any)
     where
-      go : (a : Answer (List Command)) → read_text t ≡ a → C.Refused r ≡ checked a → a ≡ refused r
+      go : (a : Answer (List Command)) → read_text t ≡ a → Err r ≡ checked a → a ≡ refused r
       go (refused x) h f = cc
       go (done p) h f = cc
 
@@ -72,11 +72,11 @@ module _ (lent t : Bytes) (size : length lent ≡ 1536) where
       let whole : list ≡ list_of p ++ drop (length (list_of p)) lent = h ∙ ap {B = Bytes} (λ a. lent_after lent (mapped list_of a)) e in
       rw whole (take_at (list_of p) (drop (length (list_of p)) lent) (3 * length p) (list_length p))
 
-  pub text-passes : (q : Program) (list : Bytes) → C.Accepted q ≡ checked (read_program_into Any lent t)
+  pub text-passes : (q : Program) (list : Bytes) → Ok q ≡ checked (read_program_into Any lent t)
       → list ≡ lent_after lent (mapped list_of (read_program_into Any lent t)) → Read t list q
   text-passes q list e h = go (read_text t) refl (e ∙ ap checked room_for_any)
     where
-      go : (a : Answer (List Command)) → read_text t ≡ a → C.Accepted q ≡ checked a → Read t list q
+      go : (a : Answer (List Command)) → read_text t ≡ a → Ok q ≡ checked a → Read t list q
       go (refused x) k f = absurd (let z : ◌≡◌ {A = ℕ} 0 1 = cc in omega arith)
       go (done p) k f =
           let known : q ≡ program_of p = cc in

@@ -1,5 +1,5 @@
 -- What a row of the report is, by the definitions of crate theory, and what the functions inside this crate take for granted.
-use Rattle.std.specs.Prelude.{◌≡◌, List, ◌++◌, ℕ}
+use Rattle.std.specs.Prelude.{◌≡◌, List, ◌++◌, ℕ, Result, Ok, Err}
 use Rattle.std.proofs.Math.Option.{none}
 use Rattle.theory.specs.Basics.{or_else}
 use Rattle.theory.specs.Text.{Bytes, split_lines}
@@ -13,12 +13,11 @@ use Rattle.theory.specs.Machines.{capacity_of}
 use Rattle.theory.specs.RunTool.{source_on, word_on, header, rows_of, capacities_fault, report_fault, printed}
 use Rattle.capacities.specs.Room.{of_variables}
 use Rattle.theory.specs.declared.End.TheVariants.{Spent}
+use Rattle.theory.specs.declared.Ended.{Ended}
+use Rattle.theory.specs.declared.Refusal.{Refusal}
 use Rattle.word.specs.Answers.{zipped}
-use Rattle.memory.specs.declared.answers.Ended as M
-use Rattle.source_state.specs.declared.Ended as R
 use Rattle.sheet.specs.Answers.{names_record}
 use Rattle.sheet.specs.declared.answers.Names.{Names}
-use Rattle.printing.specs.declared.Ended.{Ended}
 use Rattle.printing.specs.declared.Row.{Row}
 use Rattle.printing.specs.Lines.{Within}
 
@@ -26,13 +25,9 @@ use Rattle.printing.specs.Lines.{Within}
 abbrev pub ended_of : {S : Type 0} → Outcome S → Ended
 ended_of o = record { end = o.end; steps = o.steps }
 
-abbrev pub word_ended : M.Ended → Ended
-word_ended (M.Ended.Ran e n) = record { end = e; steps = n }
-word_ended (M.Ended.Refused r) = record { end = Spent; steps = 0 }
-
-abbrev pub source_ended : R.Ended → Ended
-source_ended (R.Ended.Ran e n) = record { end = e; steps = n }
-source_ended (R.Ended.Refused r) = record { end = Spent; steps = 0 }
+abbrev pub run_ended : Result Ended Refusal → Ended
+run_ended (Ok e) = e
+run_ended (Err r) = record { end = Spent; steps = 0 }
 
 -- What is printed of the two runs of a line
 unfoldable pub row_of : Outcome S.State → Outcome W.State → Row

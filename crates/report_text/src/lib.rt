@@ -14,13 +14,12 @@ ghost use Rattle.report_text.specs.Printed.{Printed};
 ghost use Rattle.report_text.specs.Fresh.{IsSet};
 
 use printing::{put_header, put_refusal, put_row};
-use program::{Checked, Program};
+use program::Program;
 use rows::run_row;
 use sheet::Names;
 use theory::Setting;
 use tidy::Form;
-use translation::Translated;
-use word::{Instruction, Read};
+use word::Instruction;
 
 // "Its word buffer has 65,536 bytes".
 pub const WORD: usize = 65536;
@@ -75,7 +74,7 @@ fn put_word_rows(
     let mut kinds = [0u8; Instruction::INSTRUCTIONS];
     let mut operands = [0u32; Instruction::INSTRUCTIONS];
     match word::read(word, &mut kinds, &mut operands) {
-        Read::Done(count) => put_rows(
+        Ok(count) => put_rows(
             list,
             &kinds[..count],
             &operands[..count],
@@ -85,7 +84,7 @@ fn put_word_rows(
             names,
             out,
         ),
-        Read::Refused(r) => put_refusal(out, r),
+        Err(r) => put_refusal(out, r),
     }
 }
 
@@ -105,8 +104,8 @@ fn put_translated(
 {
     let mut word = [0u8; WORD];
     match translation::translate_list(Setting::Any, Form::Plain, list, &mut word) {
-        Translated::Refused(r) => put_refusal(out, r),
-        Translated::Done(size) => {
+        Err(r) => put_refusal(out, r),
+        Ok(size) => {
             let end = size.symbols;
             put_word_rows(list, &word[..end], variables, capacities, sheet, names, out)
         }
@@ -125,14 +124,9 @@ fn put_roomy(
     ensures { Printed (program_report capacities.now (commands list.now) sheet.now)
         out.old out.new result }
 {
-    let found = sheet::check(sheet, variables, capacities::of_variables(capacities));
-    let names = found.names;
-    let checked = found.checked;
-    match checked {
-        sheet::Checked::Refused(r) => put_refusal(out, r),
-        sheet::Checked::Accepted(_) => {
-            put_translated(list, variables, capacities, sheet, names, out)
-        }
+    match sheet::check(sheet, variables, capacities::of_variables(capacities)) {
+        Err(r) => put_refusal(out, r),
+        Ok(found) => put_translated(list, variables, capacities, sheet, found.names, out),
     }
 }
 
@@ -149,8 +143,8 @@ fn put_accepted(
         out.old out.new result }
 {
     match capacities::check(list, capacities) {
-        list::Checked::Refused(r) => put_refusal(out, r),
-        list::Checked::Accepted(_) => put_roomy(list, variables, capacities, sheet, out),
+        Err(r) => put_refusal(out, r),
+        Ok(_) => put_roomy(list, variables, capacities, sheet, out),
     }
 }
 
@@ -161,8 +155,8 @@ pub fn put_report(text: &[u8], sheet: &[u8], capacities: &[u16], out: &mut [u8])
 {
     let mut list = [0u8; Program::NUMBERS];
     match program::read(Setting::Any, text, &mut list) {
-        Checked::Refused(r) => put_refusal(out, r),
-        Checked::Accepted(p) => {
+        Err(r) => put_refusal(out, r),
+        Ok(p) => {
             let end = 3 * p.lines;
             put_accepted(&list[..end], p.variables, capacities, sheet, out)
         }

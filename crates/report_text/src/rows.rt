@@ -10,30 +10,30 @@ ghost use Rattle.theory.specs.ProgramText.{commands};
 ghost use Rattle.word.specs.Answers.{zipped};
 ghost use Rattle.capacities.specs.Room.{of_variables};
 ghost use Rattle.report_text.specs.Fresh.{values_of, IsSet, Starts};
-ghost use Rattle.report_text.specs.Rows.{word_ended, source_ended, ended_of, Tabled, Ran};
+ghost use Rattle.report_text.specs.Rows.{run_ended, ended_of, Tabled, Ran};
 
-use counts::Counted;
-use printing::{Ended, Row};
+use printing::Row;
 use registers::Machine;
 use source::State;
-use theory::{End, Setting};
+use theory::{End, Ended, Refusal, Setting};
 
 // "budget 100,000 for the source and 1,000,000 for the word"
 const SOURCE_BUDGET: u32 = 100000;
 
 const WORD_BUDGET: u32 = 1000000;
 
-// How a word's run ended. A refusal does not come: a word of the translation passes every rule.
-fn of_word(ended: memory::Ended) -> Ended
-    ensures { result ≡ word_ended ended }
+// What stands in for a run that does not come.
+const NO_RUN: Ended = Ended {
+    end: End::Spent,
+    steps: 0,
+};
+
+// How a run ended. A refusal does not come: a word of the translation passes every rule, and a fresh state of values within the capacity
+// passes rule 9.
+fn of_run(ended: Result<Ended, Refusal>) -> Ended
+    ensures { result ≡ run_ended ended }
 {
-    match ended {
-        memory::Ended::Ran(end, steps) => Ended { end, steps },
-        memory::Ended::Refused(_) => Ended {
-            end: End::Spent,
-            steps: 0,
-        },
-    }
+    ended.unwrap_or(NO_RUN)
 }
 
 // The lengths of registers that hold the values: the variables' are the first, and the others are empty.
@@ -42,10 +42,8 @@ fn lengths_of(values: &[u32]) -> [u16; Machine::REGISTERS]
     ensures { (i : ℕ) → get_or result i 0 ≡ values_of values.now i }
 {
     let mut lengths = [0u16; Machine::REGISTERS];
-    let mut i: usize = 0;
-    while i < values.len() {
-        lengths[i] = values[i] as u16;
-        i += 1;
+    for (i, value) in values.iter().enumerate() {
+        lengths[i] = *value as u16;
     }
     lengths
 }
@@ -61,27 +59,11 @@ fn run_word(capacities: &[u16], kinds: &[u8], operands: &[u32], values: &[u32]) 
     let mut lengths = lengths_of(values);
     let at = memory::Position::fresh();
     match counts::run(capacities, &mut lengths, at, kinds, operands, WORD_BUDGET) {
-        Counted::Ran(run) => {
+        Some(run) => {
             let ended = run.ended;
-            of_word(ended)
+            of_run(ended)
         }
-        Counted::Other => Ended {
-            end: End::Spent,
-            steps: 0,
-        },
-    }
-}
-
-// How a source's run ended. A refusal does not come: a fresh state of values within the capacity passes rule 9.
-fn of_source(ended: source::Ended) -> Ended
-    ensures { result ≡ source_ended ended }
-{
-    match ended {
-        source::Ended::Ran(end, steps) => Ended { end, steps },
-        source::Ended::Refused(_) => Ended {
-            end: End::Spent,
-            steps: 0,
-        },
+        None => NO_RUN,
     }
 }
 
@@ -104,7 +86,7 @@ pub fn run_row(
     let ended = run.ended;
     let state = run.state;
     let last = state.values;
-    let source = of_source(ended);
+    let source = of_run(ended);
     let word = run_word(capacities, kinds, operands, &values[..variables]);
     Row {
         source,

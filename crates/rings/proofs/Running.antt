@@ -7,6 +7,7 @@ use native.Mathlib.Omega.{arith}
 use borrow.Author.Tests.{leb-true}
 use lib.Dec.{leb}
 use lib.ListN.{length, get_or}
+use Rattle.std.specs.Prelude.{Some, None}
 use Rattle.theory.specs.Basics.{all}
 use Rattle.theory.specs.Limits.{most_capacity}
 use Rattle.theory.specs.Runs.{stay, move}
@@ -25,7 +26,6 @@ use Rattle.underway.specs.Places.{bias, state}
 use Rattle.underway.specs.Ends.{Allowance, goes_on, end_at}
 use Rattle.underway.specs.Inside.{Usables, Stopped}
 use Rattle.underway.proofs.Running as U
-use Rattle.rings.specs.declared.effect.Step.TheVariants as Step
 use Rattle.rings.specs.Ring.{Ring, Zeros}
 use Rattle.rings.specs.Steps.{Performed, run_from}
 use Rattle.rings.proofs.Rings.{held_ring}
@@ -88,7 +88,7 @@ module _ (capacities store₀ lengths₀ kinds operands : List ℕ) (from steps 
     module _ (a : bias < here) (b : here ≤ bias + length kinds) (l : k < allowed) {store' lengths' starts' : List ℕ} where
       pub running_full : ((i : W.Instruction) → W.kind i ≡ get_or kinds (here - bias - 1) 0
           → W.operand i ≡ get_or operands (here - bias - 1) 0
-          → Performed capacities r.registers here i Step.Full store' lengths' starts')
+          → Performed capacities r.registers here i None store' lengths' starts')
           → Stopped (λ f. Ring capacities f store' lengths' starts')
           (run_from kinds operands (memory capacities store₀ lengths₀) from steps budget)
           (record { end = Full; steps = k; here = here })
@@ -101,7 +101,7 @@ module _ (capacities store₀ lengths₀ kinds operands : List ℕ) (from steps 
 
       pub running_step : (there : ℕ)
           → ((i : W.Instruction) → W.kind i ≡ get_or kinds (here - bias - 1) 0 → W.operand i ≡ get_or operands (here - bias - 1) 0
-          → Performed capacities r.registers here i (Step.To there) store' lengths' starts')
+          → Performed capacities r.registers here i (Some there) store' lengths' starts')
           → length store' ≡ length store → length lengths' ≡ length lengths → Running store' lengths' starts' there (k + 1)
       running_step there did st le =
           let (i, is, kind, operand) = U.here_is capacities kinds operands u here a b in

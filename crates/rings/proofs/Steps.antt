@@ -6,10 +6,10 @@ use Prim.Native.Nat.{ℕ, suc, ◌+◌, ◌-◌, ◌≤◌}
 use native.Mathlib.Omega.{arith}
 use borrow.Author.Tests.{le-leb, lt-leb}
 use lib.ListN.{length, get_or}
+use Rattle.std.specs.Prelude.{Some}
 use Rattle.theory.specs.Basics.{put}
 use Rattle.theory.specs.Word as W
 use Rattle.theory.specs.Word.{Symbol, one, hash, byte_of, Instruction, append, forward, backward, cases}
-use Rattle.rings.specs.declared.effect.Step.TheVariants.{To}
 use Rattle.rings.specs.Ring.{Ring, Appended, Deleted}
 use Rattle.rings.specs.Steps.{Performed, symbol_of, next_if, by_byte}
 use Rattle.underway.proofs.Effects.{place_forward, place_backward}
@@ -37,11 +37,11 @@ module _ (capacities : List ℕ) (f : ℕ → List Symbol) (here : ℕ) (store l
   did_append r x false h = (rw (lt-leb (suc (length (f (suc r)))) (get_or capacities r 0) (omega (arith, h.0))), h.1)
 
   pub did_forward : (n : ℕ) → n ≤ 600000 → Ring capacities f store lengths starts
-      → Performed capacities f here (forward n) (To (here + n)) store lengths starts
+      → Performed capacities f here (forward n) (Some (here + n)) store lengths starts
   did_forward n l h = (f, rw (place_forward here n), h, omega arith)
 
   pub did_backward : (n : ℕ) → n ≤ here → Ring capacities f store lengths starts
-      → Performed capacities f here (backward n) (To (here - n)) store lengths starts
+      → Performed capacities f here (backward n) (Some (here - n)) store lengths starts
   did_backward n l h = (f, rw (place_backward here n l), h, omega arith)
 
   pub did_cases : (r b : ℕ) → Deleted capacities f r (f (suc r)) b store lengths starts

@@ -17,7 +17,7 @@ use Rattle.theory.proofs.Budgets.{run-ended, count-within}
 use Rattle.theory.proofs.GoodMemory.{memory-is_good, contents-stored, contents-counted}
 use Rattle.memory.specs.declared.answers.Position.{Position}
 use Rattle.memory.specs.declared.answers.Run.{Run}
-use Rattle.memory.specs.declared.answers.Ended.TheVariants.{Ran}
+use Rattle.std.specs.Prelude.{Ok}
 use Rattle.memory.specs.Calls.{Called, memory, position, handed, ran, stands_outside}
 use Rattle.word.specs.Answers.{zipped}
 use Rattle.registers.specs.Held.{Held}
@@ -61,7 +61,7 @@ module _ (capacities store lengths : List ℕ) (good : is_memory (memory capacit
     whole_stopped s store' lengths' h l =
         let r : Run = record {
           position = record { place = o.state.place; steps = p.steps + o.steps };
-          ended = Ran o.end o.steps;
+          ended = Ok (record { end = o.end; steps = o.steps });
         } in
         rw (ran_is (λ f. Held capacities f store' lengths') o p.steps s h (whole-count l))
         (ap₂ {C = Called} (λ a b. handed r a b) h.held.stored h.held.counted)

@@ -10,13 +10,6 @@ ghost use Rattle.theory.specs.Word as W;
 use crate::store::{append, delete_first};
 use word::Instruction;
 
-// What one instruction does: it goes to a place, or is full.
-#[derive(Drop)]
-pub enum Step {
-    To(usize),
-    Full,
-}
-
 // The byte of the symbol that an append of this kind appends.
 fn symbol_of(kind: u8) -> u8
     ensures { result ≡ symbol_of kind }
@@ -28,28 +21,29 @@ fn symbol_of(kind: u8) -> u8
     }
 }
 
-// The step after an append.
-fn next_if(room: bool, here: usize) -> Step
+// Where an append leads, or `None` where there was no room: it is full.
+fn next_if(room: bool, here: usize) -> Option<usize>
     requires { here < 2 ^ 31 }
     ensures { result ≡ next_if room here }
 {
-    if room { Step::To(here + 1) } else { Step::Full }
+    if room { Some(here + 1) } else { None }
 }
 
-// The step after deleting the symbol of byte b, or none. No other byte stands in a register; it would be the end of the run.
-fn by_byte(b: u8, here: usize) -> Step
+// Where deleting the symbol of byte b leads, or of byte 0 none. No other byte stands in a register; it would be the end of the run.
+fn by_byte(b: u8, here: usize) -> Option<usize>
     requires { here < 2 ^ 31 }
     ensures { result ≡ by_byte b here }
 {
     match b {
-        0 => Step::To(here + 1),
-        b'1' => Step::To(here + 2),
-        b'#' => Step::To(here + 3),
-        _ => Step::Full,
+        0 => Some(here + 1),
+        b'1' => Some(here + 2),
+        b'#' => Some(here + 3),
+        _ => None,
     }
 }
 
-// Does one instruction, given by its kind and operand, from a place. "The number of # in an instruction, 1 to 5, decides its effect".
+// Does one instruction, given by its kind and operand, from a place: where it leads, or `None` where it is full. "The number of # in an
+// instruction, 1 to 5, decides its effect".
 pub fn perform(
     store: &mut [u8],
     lengths: &mut [u16],
@@ -59,7 +53,7 @@ pub fn perform(
     kind: u8,
     operand: usize,
     here: usize,
-) -> Step
+) -> Option<usize>
     requires { Sized capacities.now store.old lengths.old × Ringed capacities.now store.old lengths.old starts.old
         × Usable (length capacities.now) kind operand × (600000 ≤ here) × (here < 2 ^ 31 - 600000)
         × Offsets capacities.now offsets.now }
@@ -68,8 +62,8 @@ pub fn perform(
         → Performed capacities.now f here i result store.new lengths.new starts.new }
 {
     match kind {
-        Instruction::FORWARD => Step::To(here + operand),
-        Instruction::BACKWARD => Step::To(here - operand),
+        Instruction::FORWARD => Some(here + operand),
+        Instruction::BACKWARD => Some(here - operand),
         Instruction::CASES => by_byte(
             delete_first(store, lengths, starts, offsets, capacities, operand - 1),
             here,

@@ -11,10 +11,10 @@ ghost use Rattle.memory.specs.Calls.{memory, handed, refused_at};
 ghost use Rattle.rings.specs.Calls.{usable_called};
 
 use crate::runs::run_usable;
-use memory::{Ended, Position, Run};
+use memory::{Position, Run};
 use rule10::is_memory;
-use theory::Refusal;
-use usable::{Unusable, first_unusable};
+use theory::refused;
+use usable::first_unusable;
 
 // A call that a rule turns down.
 fn turned_down(at: Position, number: u32, place: usize) -> Run
@@ -22,7 +22,7 @@ fn turned_down(at: Position, number: u32, place: usize) -> Run
 {
     Run {
         position: at,
-        ended: Ended::Refused(Refusal { number, place }),
+        ended: refused(number, place),
     }
 }
 
@@ -45,7 +45,7 @@ pub fn run(
         return turned_down(at, 10, 0);
     }
     match first_unusable(capacities.len(), kinds, operands) {
-        Unusable::At(i) => turned_down(at, 15, i),
-        Unusable::Nothing => run_usable(capacities, store, lengths, at, kinds, operands, budget),
+        Some(i) => turned_down(at, 15, i),
+        None => run_usable(capacities, store, lengths, at, kinds, operands, budget),
     }
 }

@@ -9,7 +9,7 @@ ghost use Rattle.underway.specs.Inside.{Usables, Stopped};
 ghost use Rattle.rings.specs.Ring.{Offsets, Ring, Zeros};
 ghost use Rattle.rings.specs.Steps.{run_from};
 
-use crate::effect::{Step, perform};
+use crate::effect::perform;
 use layout::offsets;
 use memory::{Position, Run};
 use order::put_in_order;
@@ -41,6 +41,7 @@ fn run_rings(
     let allowed = allowance(budget, steps);
     let mut here = from;
     let mut k: u32 = 0;
+    // A while, since where the run stands ends it as well as the count of its steps.
     while goes_on(here, last, k, allowed) {
         let i = here - BIAS - 1;
         match perform(
@@ -53,8 +54,8 @@ fn run_rings(
             operands[i] as usize,
             here,
         ) {
-            Step::To(there) => here = there,
-            Step::Full => {
+            Some(there) => here = there,
+            None => {
                 return Stop {
                     end: End::Full,
                     steps: k,

@@ -1,13 +1,15 @@
--- Numbers laid aside, one after the other, in 64 cells.
+-- Numbers laid aside in 64 cells.
 use mathlib.Core.Path.{◌≡◌, refl, sym, ap, ◌∙◌}
 use mathlib.Core.Bool.{Bool, true, false}
-use mathlib.Core.List.{List}
-use Prim.Native.Nat.{ℕ, ◌+◌, ◌≤◌, ◌<◌}
+use mathlib.Core.List.{List, ◌++◌}
+use Prim.Native.Nat.{ℕ, ◌+◌, ◌-◌, ◌≤◌, ◌<◌, min}
 use native.Mathlib.Omega.{arith}
-use borrow.Author.Tests.{eqb-true, eqb-false, ltb-true, ltb-false}
-use lib.Dec.{eqb, ltb}
-use lib.ListN.{length, get_or, set, take, replicate, length-set, length-take, length-replicate, get_or-replicate, get_or-eq_default}
-use lib.Seq.{ext_get_or, get_or-take, get_or-set_same, get_or-set_other}
+use borrow.Author.Tests.{ltb-true, ltb-false}
+use lib.Dec.{ltb}
+use lib.ListN.{length, get_or, take, drop, replicate, length-append, length-take, length-drop, length-replicate}
+use lib.ListN.{get_or-append, get_or-replicate, get_or-eq_default}
+use lib.Seq.{ext_get_or, get_or-take, get_or-append_right, length-take-le}
+use Rattle.std.proofs.lemmas.List.{get_or-drop}
 use Rattle.theory.specs.Basics.{cells}
 use Rattle.theory.proofs.GoodMemory.{length-cells, get_or-cells}
 
@@ -15,55 +17,30 @@ use Rattle.theory.proofs.GoodMemory.{length-cells, get_or-cells}
 abbrev pub aside : List ℕ → List ℕ
 aside l = cells 64 (λ i. get_or l i 0)
 
--- The numbers before place i are in the copy, and from there on it has 0
-pub record AsideTo (l : List ℕ) (i : ℕ) (copy : List ℕ) : Type 0 where
-  pub size : length copy ≡ 64
-  pub before : (j : ℕ) → j < i → get_or copy j 0 ≡ get_or l j 0
-  pub after : (j : ℕ) → i ≤ j → get_or copy j 0 ≡ 0
-
-abbrev none_yet : List ℕ
-none_yet = replicate 64 0
-
-pub aside_none : (l : List ℕ) → AsideTo l 0 none_yet
-aside_none l = record {
-  size = size;
-  before = λ j k. absurd (omega arith);
-  after = λ j k. go j (ltb j 64) refl;
-}
+-- As many numbers as there are cells put before the cells that are left, which have 0
+pub aside_by : (l : List ℕ) (n : ℕ) (part : List ℕ) → n ≡ min (length l) 64 → part ≡ take n l → part ++ drop n (replicate 64 0) ≡ aside l
+aside_by l n part few is = ext_get_or 0 (part ++ rest) (aside l) (whole ∙ sym (length-cells 64 (λ j. get_or l j 0))) λ j k.
+    let below : j < 64 = omega (arith, whole) in
+    go j below (ltb j n) refl ∙ sym (get_or-cells 64 (λ i. get_or l i 0) 0 j below)
   where
-    size : length none_yet ≡ 64
-    size = length-replicate {A = ℕ} 64 0
+    rest : List ℕ
+    rest = drop n (replicate 64 0)
 
-    go : (j : ℕ) (t : Bool) → ltb j 64 ≡ t → get_or none_yet j 0 ≡ 0
-    go j true e = get_or-replicate {A = ℕ} 64 j 0 0 (ltb-true j 64 e)
-    go j false e = get_or-eq_default none_yet 0 {n = j} (omega (arith, ltb-false j 64 e, size))
+    size : length part ≡ n
+    size = rw is (length-take-le n l (omega arith))
 
-pub aside_next : (l : List ℕ) (i : ℕ) (copy : List ℕ) → AsideTo l i copy → i < 64 → AsideTo l (i + 1) (set copy i (get_or l i 0))
-aside_next l i copy h k = record {
-  size = length-set copy i (get_or l i 0) ∙ h.size;
-  before = λ j b. go j b (eqb j i) refl;
-  after = λ j b. get_or-set_other copy i j (get_or l i 0) 0 (λ e. omega arith) ∙ h.after j (omega arith);
-}
-  where
-    go : (j : ℕ) → j < i + 1 → (t : Bool) → eqb j i ≡ t → get_or (set copy i (get_or l i 0)) j 0 ≡ get_or l j 0
-    go j b true e =
-        let same : j ≡ i = eqb-true j i e in
-        rw same (get_or-set_same copy i (get_or l i 0) 0 (omega (arith, h.size)))
-    go j b false e =
-        let other : j ≡ i → ⊥ = eqb-false j i e in
-        get_or-set_other copy i j (get_or l i 0) 0 other ∙ h.before j (omega arith)
+    whole : length (part ++ rest) ≡ 64
+    whole = length-append part rest ∙ omega (arith, size, length-drop n (replicate {A = ℕ} 64 0), length-replicate {A = ℕ} 64 0)
 
--- All are there once no cell or no number is left
-pub aside_all : (l : List ℕ) (i : ℕ) (copy : List ℕ) → AsideTo l i copy → ((j : ℕ) → i ≤ j → j < 64 → length l ≤ j) → copy ≡ aside l
-aside_all l i copy h end = ext_get_or 0 copy (aside l) (h.size ∙ sym (length-cells 64 (λ j. get_or l j 0))) λ j k.
-    let few : j < 64 = omega (arith, h.size) in
-    go j few (ltb j i) refl ∙ sym (get_or-cells 64 (λ n. get_or l n 0) 0 j few)
-  where
-    go : (j : ℕ) → j < 64 → (t : Bool) → ltb j i ≡ t → get_or copy j 0 ≡ get_or l j 0
-    go j few true e = h.before j (ltb-true j i e)
-    go j few false e =
-        let past : i ≤ j = ltb-false j i e in
-        h.after j past ∙ sym (get_or-eq_default l 0 {n = j} (end j past few))
+    go : (j : ℕ) → j < 64 → (t : Bool) → ltb j n ≡ t → get_or (part ++ rest) j 0 ≡ get_or l j 0
+    go j k true e =
+        let h : j < n = ltb-true j n e in
+        get_or-append part rest 0 j (omega (arith, size)) ∙ rw is (get_or-take n l j 0 h)
+    go j k false e =
+        let h : n ≤ j = ltb-false j n e in
+        get_or-append_right part rest j 0 (omega (arith, size))
+        ∙ get_or-drop n (replicate 64 0) (j - length part) 0 ∙ get_or-replicate {A = ℕ} 64 (n + (j - length part)) 0 0 (omega (arith, size))
+        ∙ sym (get_or-eq_default l 0 {n = j} (omega arith))
 
 -- What was laid aside is the list again, as many as there were
 pub aside_take : (l copy : List ℕ) → copy ≡ aside l → length l ≤ 64 → take (length l) copy ≡ l

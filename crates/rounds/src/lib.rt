@@ -12,14 +12,8 @@ pub fn laid_aside(lengths: &[u16]) -> [u16; REGISTERS]
     ensures { result ≡ cells 64 (λ i. get_or lengths.now i 0) }
 {
     let mut copy = [0u16; REGISTERS];
-    let mut i: usize = 0;
-    while i < lengths.len() {
-        if REGISTERS <= i {
-            return copy;
-        }
-        copy[i] = lengths[i];
-        i += 1;
-    }
+    let count = lengths.len().min(REGISTERS);
+    copy[..count].copy_from_slice(&lengths[..count]);
     copy
 }
 
@@ -27,17 +21,7 @@ pub fn laid_aside(lengths: &[u16]) -> [u16; REGISTERS]
 pub fn are_same(a: &[u16], b: &[u16]) -> bool
     ensures { result ≡ same a.now b.now }
 {
-    if a.len() != b.len() {
-        return false;
-    }
-    let mut i: usize = 0;
-    while i < a.len() {
-        if a[i] != b[i] {
-            return false;
-        }
-        i += 1;
-    }
-    true
+    a == b
 }
 
 // The steps of as many whole rounds as there are steps left for; none where a round has none.

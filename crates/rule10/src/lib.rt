@@ -15,10 +15,8 @@ fn end_of(capacities: &[u16]) -> usize
     ensures { result ≡ offset capacities.now (suc (length capacities.now)) }
 {
     let mut end: usize = 0;
-    let mut i: usize = 0;
-    while i < capacities.len() {
-        end += capacity_at(capacities, i);
-        i += 1;
+    for capacity in capacities {
+        end += wide(*capacity);
     }
     end
 }
@@ -30,15 +28,13 @@ fn all_laid(capacities: &[u16], store: &[u8], lengths: &[u16]) -> bool
         lengths.now }
 {
     let mut from: usize = 0;
-    let mut i: usize = 0;
-    while i < lengths.len() {
+    for (i, length) in lengths.iter().enumerate() {
         let to = from + capacity_at(capacities, i);
-        let n = wide(lengths[i]);
+        let n = wide(*length);
         if !is_laid(&store[from..to], n) {
             return false;
         }
         from = to;
-        i += 1;
     }
     true
 }
@@ -47,16 +43,14 @@ fn all_laid(capacities: &[u16], store: &[u8], lengths: &[u16]) -> bool
 pub fn are_limited(capacities: &[u16]) -> bool
     ensures { result ≡ all (is_limited most_capacity) capacities.now }
 {
-    let mut i: usize = 0;
-    while i < capacities.len() {
-        let capacity = wide(capacities[i]);
+    for x in capacities {
+        let capacity = wide(*x);
         if capacity < 1 {
             return false;
         }
         if CAPACITY < capacity {
             return false;
         }
-        i += 1;
     }
     true
 }

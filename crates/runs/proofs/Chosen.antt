@@ -5,6 +5,7 @@ use mathlib.Core.List.{List}
 use Prim.Native.Nat.{ℕ, ◌≤◌, ◌<◌}
 use borrow.Author.Tests.{leb-true}
 use lib.ListN.{length, get_or}
+use Rattle.std.specs.Prelude.{Option}
 use Rattle.theory.specs.Runs.{Outcome}
 use Rattle.theory.specs.Word as W
 use Rattle.theory.specs.Word.{Entry}
@@ -21,7 +22,6 @@ use Rattle.ones.specs.Ones.{holds_ones, relaid}
 use Rattle.ones.proofs.Laws.{ones-memory, ones-relaid, ones-counted}
 use Rattle.rings.specs.Calls.{usable_called}
 use Rattle.rings.proofs.Answered.{all_done}
-use Rattle.counts.specs.declared.Counted.{Counted}
 use Rattle.countable.specs.Countable.{is_countable}
 use Rattle.counts.specs.Counts.{Counts, counted_outcome, CountsTo}
 use Rattle.countable.proofs.Tested.{none_unusable}
@@ -71,7 +71,7 @@ module _ (capacities store lengths kinds operands : List ℕ) (at : Position) (b
     counted_anew : after ≡ lengths_of (length capacities) f
     counted_anew = sym (rw (c.are, ← c.paired) (ones-counted after))
 
-  pub ran-ones : (r : Counted) (after : List ℕ)
+  pub ran-ones : (r : Option Run) (after : List ℕ)
       → CountsTo (is_countable capacities lengths kinds operands) capacities lengths at o r after
       → RanOnes m at budget t r (relaid capacities lengths after store) after
   ran-ones r after = go (is_countable capacities lengths kinds operands) refl

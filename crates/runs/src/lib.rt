@@ -10,29 +10,12 @@ ghost use Rattle.memory.specs.Calls.{memory, handed};
 ghost use Rattle.rings.specs.Calls.{usable_called};
 ghost use Rattle.ones.specs.Ones.{holds_ones};
 ghost use Rattle.countable.specs.Countable.{no_2};
-ghost use Rattle.runs.specs.Chosen.{Copied, RanOnes};
+ghost use Rattle.runs.specs.Chosen.{RanOnes};
 
 use countable::no_hash;
-use counts::Counted;
 use memory::{Position, Run};
 use ones::{are_ones, lay_ones};
-use registers::Machine;
-
-// As many lengths as a machine may have registers, laid aside.
-fn copied(lengths: &[u16]) -> [u16; Machine::REGISTERS]
-    ensures { Copied lengths.now result }
-{
-    let mut copy = [0u16; Machine::REGISTERS];
-    let mut i: usize = 0;
-    while i < lengths.len() {
-        if Machine::REGISTERS <= i {
-            return copy;
-        }
-        copy[i] = lengths[i];
-        i += 1;
-    }
-    copy
-}
+use rounds::laid_aside;
 
 // Whether a run goes on lengths. The kinds are asked first: they are fewer than the bytes of the store.
 fn has_ones(capacities: &[u16], store: &[u8], lengths: &[u16], kinds: &[u8]) -> bool
@@ -45,7 +28,7 @@ fn has_ones(capacities: &[u16], store: &[u8], lengths: &[u16], kinds: &[u8]) -> 
     are_ones(capacities, store, lengths)
 }
 
-// A run on lengths, the store written at its end; or the table is none that can be run so, and nothing changes.
+// A run on lengths, the store written at its end; `None` where the table is none that can be run so, and nothing changes.
 fn run_ones(
     capacities: &[u16],
     store: &mut [u8],
@@ -54,12 +37,12 @@ fn run_ones(
     kinds: &[u8],
     operands: &[u32],
     budget: u32,
-) -> Counted
+) -> Option<Run>
     requires { holds_ones (memory capacities.now store.old lengths.old) ≡ true }
     ensures { RanOnes (memory capacities.now store.old lengths.old) at budget
         (zipped kinds.now operands.now) result store.new lengths.new }
 {
-    let before = copied(&*lengths);
+    let before = laid_aside(&*lengths);
     let count = lengths.len();
     let counted = counts::run(capacities, &mut *lengths, at, kinds, operands, budget);
     lay_ones(capacities, store, &before[..count], &*lengths);
@@ -93,7 +76,7 @@ pub fn run(
         operands,
         budget,
     ) {
-        Counted::Ran(r) => r,
-        Counted::Other => rings::run(capacities, store, lengths, at, kinds, operands, budget),
+        Some(r) => r,
+        None => rings::run(capacities, store, lengths, at, kinds, operands, budget),
     }
 }

@@ -1,4 +1,5 @@
 -- The walk along the rows of a sheet: what is judged, and what is left.
+use Rattle.std.specs.Prelude.{Ok, Err}
 use mathlib.Core.Path.{◌≡◌, refl, ap, ◌∙◌}
 use mathlib.Core.Option.{Option, none, some}
 use mathlib.Core.List.{List, []}
@@ -10,22 +11,19 @@ use Rattle.theory.specs.Text.{Bytes, split_lines}
 use Rattle.theory.specs.RunSheet.{values}
 use Rattle.theory.specs.TurnedDown.{values_fault, rows_fault}
 use Rattle.theory.specs.declared.Refusal.{Refusal}
-use Rattle.sheet.specs.declared.answers.Fault.{Fault}
-use Rattle.sheet.specs.declared.answers.Fault.TheVariants as F
-use Rattle.sheet.specs.declared.answers.Checked.TheVariants as C
-use Rattle.sheet.specs.Answers.{line_at, after_line, fault_as}
+use Rattle.sheet.specs.Answers.{unless_refused, line_at, after_line}
 use Rattle.sheet.specs.Lines.{rows_as}
 use Rattle.sheet.proofs.Splits.{lines_next}
 
--- A fault of the code as a fault of the definitions
+-- What was handed back, as a fault of the definitions
 
-pub no_fault : {f : Fault} (o : Option Refusal) → f ≡ F.None → f ≡ fault_as o → o ≡ none
-no_fault none d e = refl
-no_fault (some r) d e = cc
+pub passes : {A : Type 0} {x : A} (o : Option Refusal) (a : A) → Ok x ≡ unless_refused o a → (o ≡ none) × (x ≡ a)
+passes none a e = (refl, cc)
+passes (some r) a e = (cc, cc)
 
-pub some_fault : {f : Fault} (o : Option Refusal) (r : Refusal) → f ≡ F.Refused r → f ≡ fault_as o → o ≡ some r
-some_fault none r d e = cc
-some_fault (some q) r d e = cc
+pub refuses : {A : Type 0} {r : Refusal} (o : Option Refusal) (a : A) → Err r ≡ unless_refused o a → o ≡ some r
+refuses none a e = cc
+refuses (some q) a e = cc
 
 -- The lines from `from` to `at` are passed, the next is line n
 pub record Along (s : Bytes) (capacities ns : List ℕ) (from at n : ℕ) : Type 0 where
@@ -57,18 +55,18 @@ module _ (s : Bytes) (capacities ns : List ℕ) (from : ℕ) where
           }
 
       pub along_fault : (r : Refusal) → values_fault capacities ns n (values (line_at s at)) ≡ some r
-          → C.Refused r ≡ rows_as capacities ns (split_lines (drop from s))
+          → Err r ≡ rows_as capacities ns (split_lines (drop from s))
       unfolding rows_fault rows_as
       along_fault r e =
           let next : split_lines (drop at s) ≡ _ = lines_next s at h in
           let faulty : rows_fault capacities ns n (split_lines (drop at s)) ≡ some r = rw (next, e) in
           rw (a.clean, faulty)
 
-    pub along_end : length s ≤ at → C.Accepted (n - 2) ≡ rows_as capacities ns (split_lines (drop from s))
+    pub along_end : length s ≤ at → Ok (n - 2) ≡ rows_as capacities ns (split_lines (drop from s))
     unfolding rows_fault rows_as split_lines
     along_end h =
         let nothing : drop at s ≡ [] = drop_of_length-le s {i = at} h in
         let passed : rows_fault capacities ns n (split_lines (drop at s)) ≡ none = rw nothing in
         let left : length (split_lines (drop at s)) ≡ 0 = rw nothing in
         let all-rows : n - 2 ≡ length (split_lines (drop from s)) = omega (arith, a.counted) in
-        rw (a.clean, passed) (ap C.Accepted all-rows)
+        rw (a.clean, passed) (ap Ok all-rows)

@@ -1,4 +1,6 @@
 -- Rules 16 to 18: what the code's tests on a line say of the definitions' verdict, row after row, and of the whole sheet.
+use Rattle.std.specs.Prelude.{Option as Found, None, Some, Ok}
+use Rattle.std.specs.Option.{is_some}
 use mathlib.Core.Path.{◌≡◌, refl, sym, ap, ◌∙◌}
 use mathlib.Core.Bool.{Bool, true, false, cond, ◌&&◌}
 use mathlib.Core.Option.{Option, none, some}
@@ -9,7 +11,7 @@ use native.Mathlib.Omega.{arith}
 use lib.ListN.{length, take, get_or}
 use lib.Dec.{eqb, leb, ltb}
 use borrow.Author.Tests.{eqb-true, leb-true, leb-false, le-leb, lt-leb, ltb-true, ltb-false, lt-ltb}
-use Rattle.theory.specs.Basics.{all}
+use Rattle.theory.specs.Basics.{all, default}
 use Rattle.theory.specs.Text.{Bytes, LF, ends_in_LF}
 use Rattle.theory.specs.ProgramText.{above}
 use Rattle.theory.specs.RunSheet.{names, values, distinct}
@@ -18,13 +20,13 @@ use Rattle.theory.proofs.Faults.{and_first, and_second}
 use Rattle.columns.specs.Columns.{padded, is_variable, columns_as}
 use Rattle.columns.proofs.Distinct.{AllBelow, different_below, below_more}
 use Rattle.columns.proofs.Padded.{padded-take}
-use Rattle.columns.proofs.Fitting.{fit_many, fit_padded}
+use Rattle.columns.proofs.Fitting.{fit_many, fit_padded, columns-padded}
 use Rattle.fields.specs.declared.Line.{Line}
 use Rattle.fields.specs.Fields.{most, line_of, numbers_of, under}
 use Rattle.fields.proofs.Kept.{kept_all}
-use Rattle.sheet.specs.declared.answers.Fault.{Fault}
-use Rattle.sheet.specs.Answers.{fault_as}
-use Rattle.sheet.specs.Lines.{line_fault, names_line_fault, line_columns, fault_of, is_sheet_size}
+use Rattle.sheet.specs.declared.answers.Names.{Names}
+use Rattle.sheet.specs.Answers.{unless_refused, names_record}
+use Rattle.sheet.specs.Lines.{down, columns_told, names_told, values_told, is_sheet_size}
 
 -- The two ways to read a line
 pub numbers-names : (l : Bytes) → numbers_of true l ≡ names l
@@ -38,7 +40,7 @@ numbers-values l = refl
 -- A line of values
 
 -- Values within their capacities are below what is above any of these
-pub within_below : (capacities : List ℕ) (bound : ℕ) → ((i : ℕ) → get_or capacities i 0 < bound) → (ns vs : List ℕ) → length vs ≡ length ns
+within_below : (capacities : List ℕ) (bound : ℕ) → ((i : ℕ) → get_or capacities i 0 < bound) → (ns vs : List ℕ) → length vs ≡ length ns
     → within_columns capacities ns vs ≡ true → AllBelow bound vs
 unfolding within_columns
 within_below capacities bound h [] [] e low = refl
@@ -49,44 +51,42 @@ within_below capacities bound h (n ∷ ns) (v ∷ vs) e low =
     let later : AllBelow bound vs = within_below capacities bound h ns vs (omega arith) (and_second (leb v _) _ low) in
     rw (lt-ltb v bound (omega (arith, h n))) later
 
-module _ (capacities ns : List ℕ) (bounded : (i : ℕ) → get_or capacities i 0 < most) where
-  -- The values of a line that passes, as the code keeps them
-  pub kept_values : (vs : List ℕ) → length ns ≤ 32 → length vs ≡ length ns → AllBelow most vs
-      → take (length ns) (line_of most (some vs)).numbers ≡ vs
-  unfolding line_of
-  kept_values vs few e h = rw (kept_all most vs h, ← e) (padded-take vs (omega arith))
+module _ (capacities : List ℕ) (bounded : (i : ℕ) → get_or capacities i 0 < most) (names : Names)
+    (size : length (take names.count names.columns) ≡ names.count) (few : names.count ≤ 32)
+  where
+    abbrev listed : List ℕ
+    listed = take names.count names.columns
 
-  abbrev verdict : ℕ → Option (List ℕ) → Fault
-  verdict n o = line_fault (line_of most o) (length ns) (within_columns capacities ns (take (length ns) (line_of most o).numbers)) n
+    values-judged : (n : ℕ) (o : Option (List ℕ))
+        → values_told capacities names n (line_of most o) ≡ unless_refused (values_fault capacities listed n o) (padded (default [] o))
+    unfolding line_of
+    values-judged n none = refl
+    values-judged n (some vs) = go (eqb (length vs) names.count) refl (all (λ v. ltb v most) vs) refl
+      where
+        told : (b : Bool) → cond b (Ok (padded vs)) (down 18 n) ≡ unless_refused (unless b 18 n) (padded vs)
+        told true = refl
+        told false = refl
 
-  values-judged : (n : ℕ) (o : Option (List ℕ)) → length ns ≤ 32 → verdict n o ≡ fault_as (values_fault capacities ns n o)
-  unfolding line_of line_fault
-  values-judged n none few = refl
-  values-judged n (some vs) few = go (eqb (length vs) (length ns)) refl (all (λ v. ltb v most) vs) refl
-    where
-      told : (b : Bool) → cond b (fault_as none) (fault_of 18 n) ≡ fault_as (unless b 18 n)
-      told true = refl
-      told false = refl
+        outside : all (λ v. ltb v most) vs ≡ false → length vs ≡ length listed → (b : Bool) → within_columns capacities listed vs ≡ b
+            → within_columns capacities listed vs ≡ false
+        outside f e true h = h ∙ sym (within_below capacities most bounded listed vs e h) ∙ f
+        outside f e false h = h
 
-      outside : all (λ v. ltb v most) vs ≡ false → length vs ≡ length ns → (b : Bool) → within_columns capacities ns vs ≡ b
-          → within_columns capacities ns vs ≡ false
-      outside f e true h = h ∙ sym (within_below capacities most bounded ns vs e h) ∙ f
-      outside f e false h = h
+        go : (same : Bool) → eqb (length vs) names.count ≡ same → (below : Bool) → all (λ v. ltb v most) vs ≡ below
+            → values_told capacities names n (line_of most (some vs)) ≡ unless_refused (values_fault capacities listed n (some vs)) (padded vs)
+        go false e below f = rw (size, e)
+        go true e false f =
+            let counted : length vs ≡ names.count = eqb-true (length vs) names.count e in
+            rw (size, e, f, outside f (counted ∙ sym size) (within_columns capacities listed vs) refl)
+        go true e true f =
+            let counted : length vs ≡ names.count = eqb-true (length vs) names.count e in
+            let taken : take names.count (padded vs) ≡ vs = rw (← counted) (padded-take vs (omega arith)) in
+            rw (size, e, f, kept_all most vs f, taken) (told (within_columns capacities listed vs))
 
-      go : (same : Bool) → eqb (length vs) (length ns) ≡ same → (below : Bool) → all (λ v. ltb v most) vs ≡ below
-          → verdict n (some vs) ≡ fault_as (values_fault capacities ns n (some vs))
-      go false e below f = rw e
-      go true e false f =
-          let size : length vs ≡ length ns = eqb-true (length vs) (length ns) e in
-          rw (e, f, outside f size (within_columns capacities ns vs) refl)
-      go true e true f =
-          let size : length vs ≡ length ns = eqb-true (length vs) (length ns) e in
-          rw (e, f, kept_values vs few size f) (told (within_columns capacities ns vs))
-
-  -- and of the line that the code has read
-  pub line-judged : (n : ℕ) (o : Option (List ℕ)) (l : Line) (count : ℕ) (low : Bool) → l ≡ line_of most o → length ns ≡ count → count ≤ 32
-      → low ≡ within_columns capacities ns (take count l.numbers) → line_fault l count low n ≡ fault_as (values_fault capacities ns n o)
-  line-judged n o l count low read size few e = rw (e, read, ← size) (values-judged n o (omega arith))
+    -- and of the line that the code has read
+    pub line-judged : (n : ℕ) (o : Option (List ℕ)) (l : Found Line) → l ≡ line_of most o
+        → values_told capacities names n l ≡ unless_refused (values_fault capacities listed n o) (padded (default [] o))
+    line-judged n o l read = rw read (values-judged n o)
 
 -- The line of names
 
@@ -109,29 +109,37 @@ too_many K ns h below many = go (distinct ns) refl
     go true e = absurd (omega (arith, different_below K ns below e))
     go false e = e
 
+none_of : {A : Type 0} (o : Found A) → is_some o ≡ false → o ≡ None
+none_of None h = refl
+none_of (Some a) h = cc
+
 pub names-judged : (K : ℕ) (o : Option (List ℕ)) → K ≤ 32
-    → names_line_fault (line_of K o) (line_columns (line_of K o)).fit ≡ fault_as (names_fault K o)
-unfolding line_of names_line_fault
+    → names_told (line_of K o) ≡ unless_refused (names_fault K o) (names_record (default [] o))
+unfolding line_of
 names-judged K none h = refl
 names-judged K (some ns) h = rw (above_below K ns) (go (all (λ n. ltb n K) ns) refl)
   where
-    verdict : (b : Bool) → cond b (fault_as none) (fault_of 17 1) ≡ fault_as (unless b 17 1)
-    verdict true = refl
-    verdict false = refl
+    told : (b : Bool) → columns_told (length ns) (cond b (Some (padded ns)) None) ≡ unless_refused (unless b 17 1) (names_record ns)
+    told true = refl
+    told false = refl
 
-    fitting : (few : Bool) → AllBelow K ns → leb (length ns) 32 ≡ few → (columns_as (length ns) (padded ns)).fit ≡ distinct ns
-    fitting true e f =
+    fitting : (few differ : Bool) → AllBelow K ns → leb (length ns) 32 ≡ few → distinct ns ≡ differ
+        → columns_as (length ns) (padded ns) ≡ cond (distinct ns) (Some (padded ns)) None
+    fitting true true e f d =
         let low : all is_variable ns ≡ true = below_more K 32 ns h e in
-        fit_padded ns (leb-true (length ns) 32 f) ∙ rw low
-    fitting false e f =
+        rw d (columns-padded ns (leb-true (length ns) 32 f) (rw (low, d)))
+    fitting true false e f d =
+        let low : all is_variable ns ≡ true = below_more K 32 ns h e in
+        rw d (none_of (columns_as (length ns) (padded ns)) (fit_padded ns (leb-true (length ns) 32 f) ∙ rw (low, d)))
+    fitting false differ e f d =
         let many : 32 < length ns = leb-false (length ns) 32 f in
-        fit_many ns (padded ns) many ∙ sym (too_many K ns h e many)
+        rw (too_many K ns h e many) (none_of (columns_as (length ns) (padded ns)) (fit_many ns (padded ns) many))
 
     go : (below : Bool) → all (λ n. ltb n K) ns ≡ below
-        → cond (below && (columns_as (length ns) (padded (map (under K) ns))).fit) (fault_as none) (fault_of 17 1)
-        ≡ fault_as (unless (below && distinct ns) 17 1)
+        → cond below (columns_told (length ns) (columns_as (length ns) (padded (map (under K) ns)))) (down 17 1)
+        ≡ unless_refused (unless (below && distinct ns) 17 1) (names_record ns)
     go false e = refl
-    go true e = rw (kept_all K ns e, fitting (leb (length ns) 32) e refl) (verdict (distinct ns))
+    go true e = rw (kept_all K ns e, fitting (leb (length ns) 32) (distinct ns) e refl refl) (told (distinct ns))
 
 -- The size rules of 16
 

@@ -1,6 +1,7 @@
 -- What this crate's entries hand back, by the definitions of crate theory: a sheet that is checked, and a line of values that is read.
+use Rattle.std.specs.Prelude.{List, [], ◌∷◌, ℕ, ◌+◌, ◌-◌, min, length, take, drop, None, Some, Result, Ok, Err}
+use Rattle.std.specs.Prelude as code
 use Rattle.std.proofs.Math.Option.{Option, none, some}
-use Rattle.std.specs.Prelude.{List, [], ◌∷◌, ℕ, ◌+◌, ◌-◌, min, length, take, drop}
 use Rattle.theory.specs.Limits
 use Rattle.theory.specs.Text.{Bytes, split_lines}
 use Rattle.theory.specs.RunSheet.{values}
@@ -8,24 +9,25 @@ use Rattle.theory.specs.TurnedDown.{values_fault, names_of, sheet_fault_for}
 use Rattle.theory.specs.declared.Refusal.{Refusal}
 use Rattle.columns.specs.Columns.{padded, starts}
 use Rattle.sheet.specs.declared.answers.Names.{Names}
-use Rattle.sheet.specs.declared.answers.Checked.TheVariants as C
 use Rattle.sheet.specs.declared.answers.Sheet.{Sheet}
-use Rattle.sheet.specs.declared.answers.Fault.{Fault}
-use Rattle.sheet.specs.declared.answers.Fault.TheVariants as F
 use Rattle.sheet.specs.declared.answers.Row.{Row}
 
--- A sheet checked: on a refusal no names are handed back
+-- What is handed back where nothing is turned down, or the first refusal that applies
+abbrev pub unless_refused : {A : Type 0} → Option Refusal → A → Result A Refusal
+unless_refused none a = Ok a
+unless_refused (some r) a = Err r
+
+-- A sheet checked
 
 abbrev pub names_record : List ℕ → Names
 names_record ns = record { columns = padded ns; count = length ns }
 
-abbrev pub checked_as : Option Refusal → List ℕ → ℕ → Sheet
-checked_as none ns rows = record { names = names_record ns; checked = C.Accepted rows }
-checked_as (some r) ns rows = record { names = names_record []; checked = C.Refused r }
-
 -- Every line but the first is a row
-unfoldable pub sheet_answer : ℕ → List ℕ → Bytes → Sheet
-sheet_answer K capacities s = checked_as (sheet_fault_for K capacities s) (names_of (split_lines s)) (length (split_lines s) - 1)
+abbrev pub sheet_record : List Bytes → Sheet
+sheet_record ls = record { names = names_record (names_of ls); rows = length ls - 1 }
+
+unfoldable pub sheet_answer : ℕ → List ℕ → Bytes → Result Sheet Refusal
+sheet_answer K capacities s = unless_refused (sheet_fault_for K capacities s) (sheet_record (split_lines s))
 
 -- A line of values read
 
@@ -44,9 +46,9 @@ after_line s at = min (at + length (line_at s at) + 1) (length s)
 abbrev pub columns_of : Names → List ℕ
 columns_of n = take (min n.count Limits.state_values) n.columns
 
-abbrev pub fault_as : Option Refusal → Fault
-fault_as none = F.None
-fault_as (some r) = F.Refused r
+abbrev pub fault_as : Option Refusal → code.Option Refusal
+fault_as none = None
+fault_as (some r) = Some r
 
 -- The values that all variables start at; 0 where the line is turned down
 abbrev pub starts_as : Option Refusal → List ℕ → Option (List ℕ) → List ℕ

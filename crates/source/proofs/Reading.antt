@@ -1,4 +1,5 @@
 -- What the crate `program` answers, and the program that a list holds then.
+use Rattle.std.specs.Prelude.{Ok, Err}
 use mathlib.Core.Path.{◌≡◌, refl, sym, ap, ◌∙◌}
 use mathlib.Core.Option.{none}
 use mathlib.Core.List.{List, ◌++◌}
@@ -18,7 +19,6 @@ use Rattle.theory.proofs.Settings.{read_text_outside, read_list_outside}
 use Rattle.theory.proofs.Lists.{commands_list, lists_round_trip}
 use Rattle.list.specs.Answers.{program_of, checked}
 use Rattle.list.specs.declared.Program.{Program}
-use Rattle.list.specs.declared.Checked.TheVariants as C
 use Rattle.list.proofs.Lists.{list_length}
 use Rattle.source.specs.Lines.{Holds, Given}
 use Rattle.source.proofs.Program.{holds_list}
@@ -30,13 +30,13 @@ pub record AcceptedAs (a : Answer (List Command)) (x : Program) : Type 0 where
   pub lines_are : x.lines ≡ length commands
   pub variables_are : x.variables ≡ variables commands
 
-pub accepted_as : (a : Answer (List Command)) (x : Program) → checked a ≡ C.Accepted x → AcceptedAs a x
+pub accepted_as : (a : Answer (List Command)) (x : Program) → checked a ≡ Ok x → AcceptedAs a x
 accepted_as (done p) x e =
     let same : program_of p ≡ x = cc in
     record { commands = p; is_done = refl; lines_are = sym (ap (λ y. y.lines) same); variables_are = sym (ap (λ y. y.variables) same) }
 accepted_as (refused r) x e = let z : ◌≡◌ {A = ℕ} 0 1 = cc in absurd (omega arith)
 
-pub refused_as : (a : Answer (List Command)) (x : Refusal) → checked a ≡ C.Refused x → a ≡ refused x
+pub refused_as : (a : Answer (List Command)) (x : Refusal) → checked a ≡ Err x → a ≡ refused x
 refused_as (done p) x e = let z : ◌≡◌ {A = ℕ} 0 1 = cc in absurd (omega arith)
 refused_as (refused r) x e = let same : r ≡ x = cc in ap refused same
 

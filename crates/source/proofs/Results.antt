@@ -18,7 +18,7 @@ use Rattle.source_state.specs.Answers.{stands, source_state, ended_by, state_by,
 use Rattle.source.specs.Lines.{machine_of, run_at, outcome_of}
 use Rattle.source_state.specs.declared.State.{State}
 use Rattle.source.specs.declared.steps.Stop.{Stop}
-use Rattle.source_state.specs.declared.Ended.TheVariants as E
+use Rattle.std.specs.Prelude.{Ok, Err}
 use Rattle.theory.proofs.Counts.{allows, same_allowed}
 
 cells_of : (n : ℕ) (l : List ℕ) → length l ≡ n → cells n (λ i. get_or l i 0) ≡ l
@@ -27,12 +27,12 @@ cells_of zero (x ∷ l) e = absurd (omega arith)
 cells_of (suc n) [] e = absurd (omega arith)
 cells_of (suc n) (x ∷ l) e = ap {B = List ℕ} (λ t. x ∷ t) (cells_of n l (omega arith))
 
-pub refused_back : (s : State) (x : Refusal) → HandsBack s (refused x) (record { state = s; ended = E.Refused x })
+pub refused_back : (s : State) (x : Refusal) → HandsBack s (refused x) (record { state = s; ended = Err x })
 unfolding ended_by state_by moved_by
 refused_back s x = record { ended = refl; state = refl; stands = refl }
 
 pub rule_9-back : (s : State) (budget : ℕ) (p : List Command) → is_source p (source_state s) ≡ false
-    → HandsBack s (run_from (source_state s) budget p) (record { state = s; ended = E.Refused (record { number = 9; place = 0 }) })
+    → HandsBack s (run_from (source_state s) budget p) (record { state = s; ended = Err (record { number = 9; place = 0 }) })
 unfolding run_from rule_9
 rule_9-back s budget p e = rw e (refused_back s (record { number = 9; place = 0 }))
 
@@ -53,8 +53,7 @@ module _ (l : List ℕ) (s : State) (budget : ℕ) (r : Stop) (vs ps : List ℕ)
       → length vs ≡ state_values → length ps ≡ state_passes
       → HandsBack s (run_from (source_state s) budget (commands l)) (record {
         state = stopped s r vs ps;
-        ended = E.Ran r.end
-            r.taken;
+        ended = Ok (record { end = r.end; steps = r.taken });
       })
   unfolding run_from rule_9 run_source run_at ended_by state_by moved_by
   run-back counted good v p =

@@ -11,6 +11,7 @@ use borrow.Author.Tests.{le-leb, lt-leb, ne_eqb, leb-true, leb-false}
 use lib.ListN.{length, get_or, set}
 use lib.Seq.{get_or-set_same, get_or-set_other, set-get_or}
 use lib.Dec.{eqb, leb}
+use Rattle.std.specs.Prelude.{Option, Some, None}
 use Rattle.theory.specs.Limits.{state_values, state_passes, most_index}
 use Rattle.theory.specs.Basics.{at, put}
 use Rattle.theory.specs.ProgramText.{Command, plain, clear, increment, copy, opens, closes, loop, while, indices, above, commands}
@@ -24,10 +25,7 @@ use Rattle.theory.proofs.Partners.{Known}
 use Rattle.source_state.specs.Answers.{stands}
 use Rattle.source_state.specs.Numbers.{stored, led}
 use Rattle.source.specs.Lines.{Holds, decoded, command_at, entry_at, Jump, Reaches, Filled, Put, Left, Stepped}
-use Rattle.source_state.specs.declared.step.Stored.{Stored}
 use Rattle.source_state.specs.declared.step.Led.{Led}
-use Rattle.source.specs.declared.steps.Next.{Next}
-use Rattle.source.specs.declared.steps.Next.TheVariants as N
 use Rattle.source.proofs.Program.{here, kind-within, no_second, partner, low_indices, depth_room}
 
 -- Cells and lists
@@ -194,19 +192,19 @@ module _ (l : List ℕ) (h : Holds l) (capacities : List ℕ) (line : ℕ) (low 
 
   -- A step to the next line, and a full one
   goes_on : (vs' ps' : List ℕ) → S.step room (commands l) (stands line vs ps) ≡ some (stands (line + 1) vs' ps')
-      → Stepped (commands l) capacities line vs ps (N.At (line + 1)) vs' ps'
+      → Stepped (commands l) capacities line vs ps (Some (line + 1)) vs' ps'
   goes_on vs' ps' e = record { next = e; inside = omega arith; kept = tt }
 
-  stays : S.step room (commands l) (stands line vs ps) ≡ none → Stepped (commands l) capacities line vs ps N.Full vs ps
+  stays : S.step room (commands l) (stands line vs ps) ≡ none → Stepped (commands l) capacities line vs ps None vs ps
   stays e = record { next = e; inside = tt; kept = (refl, refl) }
 
   clears : kind_at l m ≡ 1 → first-at l m < length vs
-      → Stepped (commands l) capacities line vs ps (N.At (line + 1)) (set vs (first-at l m) 0) ps
+      → Stepped (commands l) capacities line vs ps (Some (line + 1)) (set vs (first-at l m) 0) ps
   clears e i = goes_on (set vs (first-at l m) 0) ps
       (performs (plain (clear (first-at l m))) (of_kind l m 1 e) ∙ ap some (assigns line vs ps (first-at l m) 0 i))
 
   counts : kind_at l m ≡ 2 → first-at l m < length vs → get_or vs (first-at l m) 0 < capacity
-      → Stepped (commands l) capacities line vs ps (N.At (line + 1)) (set vs (first-at l m) (get_or vs (first-at l m) 0 + 1)) ps
+      → Stepped (commands l) capacities line vs ps (Some (line + 1)) (set vs (first-at l m) (get_or vs (first-at l m) 0 + 1)) ps
   counts e i less =
       let x : ℕ = get_or vs (first-at l m) 0 in
       let fits : _ = room_for (suc x) true (le-leb (suc x) capacity less) in
@@ -214,21 +212,21 @@ module _ (l : List ℕ) (h : Holds l) (capacities : List ℕ) (line : ℕ) (low 
       (performs (plain (increment (first-at l m))) (of_kind l m 2 e)
       ∙ rw (fits, ← add-one x) (ap some (assigns line vs ps (first-at l m) (x + 1) i)))
 
-  counts_full : kind_at l m ≡ 2 → capacity ≤ get_or vs (first-at l m) 0 → Stepped (commands l) capacities line vs ps N.Full vs ps
+  counts_full : kind_at l m ≡ 2 → capacity ≤ get_or vs (first-at l m) 0 → Stepped (commands l) capacities line vs ps None vs ps
   counts_full e more =
       let x : ℕ = get_or vs (first-at l m) 0 in
       let fits : _ = room_for (suc x) false (lt-leb (suc x) capacity (omega arith)) in
       stays (performs (plain (increment (first-at l m))) (of_kind l m 2 e) ∙ rw fits)
 
   copies : kind_at l m ≡ 3 → first-at l m < length vs → get_or vs (second_at l m) 0 ≤ capacity
-      → Stepped (commands l) capacities line vs ps (N.At (line + 1)) (set vs (first-at l m) (get_or vs (second_at l m) 0)) ps
+      → Stepped (commands l) capacities line vs ps (Some (line + 1)) (set vs (first-at l m) (get_or vs (second_at l m) 0)) ps
   copies e i less =
       let x : ℕ = get_or vs (second_at l m) 0 in
       goes_on (set vs (first-at l m) x) ps
       (performs (plain (copy (first-at l m) (second_at l m))) (of_kind l m 3 e)
       ∙ rw (room_for x true (le-leb x capacity less)) (ap some (assigns line vs ps (first-at l m) x i)))
 
-  copies_full : kind_at l m ≡ 3 → capacity < get_or vs (second_at l m) 0 → Stepped (commands l) capacities line vs ps N.Full vs ps
+  copies_full : kind_at l m ≡ 3 → capacity < get_or vs (second_at l m) 0 → Stepped (commands l) capacities line vs ps None vs ps
   copies_full e more =
       let x : ℕ = get_or vs (second_at l m) 0 in
       stays (performs (plain (copy (first-at l m) (second_at l m))) (of_kind l m 3 e) ∙ rw (room_for x false (lt-leb x capacity more)))
@@ -241,19 +239,19 @@ module _ (l : List ℕ) (h : Holds l) (capacities : List ℕ) (line : ℕ) (low 
   y = get_or vs (second_at l m) 0
 
   -- All plain kinds, as the numbers say what is stored
-  abbrev Stores : Stored → Type 0
-  Stores (Stored.Value v) = Stepped (commands l) capacities line vs ps (N.At (line + 1)) (set vs (first-at l m) v) ps
-  Stores Stored.Full = Stepped (commands l) capacities line vs ps N.Full vs ps
+  abbrev Stores : Option ℕ → Type 0
+  Stores (Some v) = Stepped (commands l) capacities line vs ps (Some (line + 1)) (set vs (first-at l m) v) ps
+  Stores None = Stepped (commands l) capacities line vs ps None vs ps
 
   stores : kind_at l m ≤ 3 → first-at l m < length vs → Stores (stored (kind_at l m) x y capacity)
   unfolding stored
   stores small i = go (ℕ_discrete (kind_at l m) 1) (ℕ_discrete (kind_at l m) 2)
     where
-      more : kind_at l m ≡ 2 → (room : Bool) → leb (suc x) capacity ≡ room → Stores (cond room (Stored.Value (x + 1)) Stored.Full)
+      more : kind_at l m ≡ 2 → (room : Bool) → leb (suc x) capacity ≡ room → Stores (cond room (Some (x + 1)) None)
       more e true room = counts e i (leb-true (suc x) capacity room)
       more e false room = counts_full e (omega (arith, leb-false (suc x) capacity room))
 
-      same : kind_at l m ≡ 3 → (room : Bool) → leb y capacity ≡ room → Stores (cond room (Stored.Value y) Stored.Full)
+      same : kind_at l m ≡ 3 → (room : Bool) → leb y capacity ≡ room → Stores (cond room (Some y) None)
       same e true room = copies e i (leb-true y capacity room)
       same e false room = copies_full e (leb-false y capacity room)
 
@@ -264,14 +262,14 @@ module _ (l : List ℕ) (h : Holds l) (capacities : List ℕ) (line : ℕ) (low 
           let e : kind_at l m ≡ 3 = omega (arith, kind-within l h m inside) in
           rw (ne_eqb (kind_at l m) 1 a, ne_eqb (kind_at l m) 2 q) (same e (leb y capacity) refl)
 
-  pub put_in : kind_at l m ≤ 3 → first-at l m < length vs → (r : Next) (vs' : List ℕ)
+  pub put_in : kind_at l m ≤ 3 → first-at l m < length vs → (r : Option ℕ) (vs' : List ℕ)
       → Put (stored (kind_at l m) x y capacity) (line + 1) (first-at l m) vs r vs'
       → Stepped (commands l) capacities line vs ps r vs' ps
   put_in small i r vs' = go (stored (kind_at l m) x y capacity) (stores small i)
     where
-      go : (s : Stored) → Stores s → Put s (line + 1) (first-at l m) vs r vs' → Stepped (commands l) capacities line vs ps r vs' ps
-      go (Stored.Value v) made put = rw (put.0, put.1) made
-      go Stored.Full made put = rw (put.0, put.1) made
+      go : (s : Option ℕ) → Stores s → Put s (line + 1) (first-at l m) vs r vs' → Stepped (commands l) capacities line vs ps r vs' ps
+      go (Some v) made put = rw (put.0, put.1) made
+      go None made put = rw (put.0, put.1) made
 
   -- The lines of a pair, by tables that are filled
   module _ (ts es : List ℕ) (tables : Filled l ts es) where
@@ -289,11 +287,11 @@ module _ (l : List ℕ) (h : Holds l) (capacities : List ℕ) (line : ℕ) (low 
 
     goes_to : (goal : ℕ) (vs' ps' : List ℕ) → Jump (commands l) goal t
         → S.step room (commands l) (stands line vs ps) ≡ some (stands goal vs' ps')
-        → Stepped (commands l) capacities line vs ps (N.At t) vs' ps'
+        → Stepped (commands l) capacities line vs ps (Some t) vs' ps'
     goes_to goal vs' ps' j e =
         record { next = e ∙ ap (λ n. some (stands n vs' ps')) (sym j.to); inside = (j.low, j.high); kept = tt }
 
-    loop_past : kind_at l m ≡ 4 → get_or vs (first-at l m) 0 ≡ 0 → Stepped (commands l) capacities line vs ps (N.At t) vs ps
+    loop_past : kind_at l m ≡ 4 → get_or vs (first-at l m) 0 ≡ 0 → Stepped (commands l) capacities line vs ps (Some t) vs ps
     unfolding Reaches
     loop_past e z =
         let c : command_at l m ≡ opens loop (first-at l m) = of_kind l m 4 e in
@@ -301,7 +299,7 @@ module _ (l : List ℕ) (h : Holds l) (capacities : List ℕ) (line : ℕ) (low 
         (performs (opens loop (first-at l m)) c ∙ rw z)
 
     loop_in : kind_at l m ≡ 4 → (get_or vs (first-at l m) 0 ≡ 0 → ⊥) → d < length ps
-        → Stepped (commands l) capacities line vs ps (N.At (line + 1)) vs (set ps d (get_or vs (first-at l m) 0))
+        → Stepped (commands l) capacities line vs ps (Some (line + 1)) vs (set ps d (get_or vs (first-at l m) 0))
     loop_in e n b =
         let k : ℕ = get_or vs (first-at l m) 0 in
         let entry : d ≡ S.depth (commands l) line =
@@ -315,7 +313,7 @@ module _ (l : List ℕ) (h : Holds l) (capacities : List ℕ) (line : ℕ) (low 
     closed_entry e = ap (λ n. pred (S.depth (commands l) n)) from ∙ sym (closing-entry l h m inside es (tables.enters m inside) e).0
 
     loop_ends : kind_at l m ≡ 5 → get_or ps d 0 ≤ 1 → d < length ps
-        → Stepped (commands l) capacities line vs ps (N.At (line + 1)) vs (set ps d 0)
+        → Stepped (commands l) capacities line vs ps (Some (line + 1)) vs (set ps d 0)
     loop_ends e few b =
         let zero_left : pred (get_or ps d 0) ≡ 0 = omega arith in
         goes_on vs (set ps d 0)
@@ -323,7 +321,7 @@ module _ (l : List ℕ) (h : Holds l) (capacities : List ℕ) (line : ℕ) (low 
         ∙ rw (closed_entry e, zero_left, closed_entry e, add-one line) (ap some (entered (suc line) vs ps d 0 b)))
 
     loop_again : kind_at l m ≡ 5 → 1 < get_or ps d 0 → d < length ps
-        → Stepped (commands l) capacities line vs ps (N.At t) vs (set ps d (get_or ps d 0 - 1))
+        → Stepped (commands l) capacities line vs ps (Some t) vs (set ps d (get_or ps d 0 - 1))
     unfolding Reaches
     loop_again e more b =
         let k : ℕ = get_or ps d 0 - 1 in
@@ -335,7 +333,7 @@ module _ (l : List ℕ) (h : Holds l) (capacities : List ℕ) (line : ℕ) (low 
         ∙ rw (closed_entry e, left, repeated (commands l) (stands line vs ps) k some_left, closed_entry e)
         (ap some (entered (suc (S.opening (commands l) line)) vs ps d k b)))
 
-    while_past : kind_at l m ≡ 6 → get_or vs (first-at l m) 0 ≡ 0 → Stepped (commands l) capacities line vs ps (N.At t) vs ps
+    while_past : kind_at l m ≡ 6 → get_or vs (first-at l m) 0 ≡ 0 → Stepped (commands l) capacities line vs ps (Some t) vs ps
     unfolding Reaches
     while_past e z =
         let c : command_at l m ≡ opens while (first-at l m) = of_kind l m 6 e in
@@ -343,13 +341,13 @@ module _ (l : List ℕ) (h : Holds l) (capacities : List ℕ) (line : ℕ) (low 
         (performs (opens while (first-at l m)) c ∙ rw z)
 
     while_in : kind_at l m ≡ 6 → (get_or vs (first-at l m) 0 ≡ 0 → ⊥)
-        → Stepped (commands l) capacities line vs ps (N.At (line + 1)) vs ps
+        → Stepped (commands l) capacities line vs ps (Some (line + 1)) vs ps
     while_in e n =
         goes_on vs ps
         (performs (opens while (first-at l m)) (of_kind l m 6 e)
         ∙ rw (add-one line) (ap some (held (commands l) (stands line vs ps) (get_or vs (first-at l m) 0) n)))
 
-    while_back : command_at l m ≡ closes while (first-at l m) → Stepped (commands l) capacities line vs ps (N.At t) vs ps
+    while_back : command_at l m ≡ closes while (first-at l m) → Stepped (commands l) capacities line vs ps (Some t) vs ps
     unfolding Reaches
     while_back c =
         goes_to (S.opening (commands l) line) vs ps (jump (closes while (first-at l m)) c) (performs (closes while (first-at l m)) c)
@@ -359,9 +357,9 @@ module _ (l : List ℕ) (h : Holds l) (capacities : List ℕ) (line : ℕ) (low 
     left = get_or ps d 0
 
     abbrev Leads : Led → Type 0
-    Leads r = Stepped (commands l) capacities line vs ps (N.At r.line) vs (set ps d r.left)
+    Leads r = Stepped (commands l) capacities line vs ps (Some r.line) vs (set ps d r.left)
 
-    unchanged : (n : ℕ) → Stepped (commands l) capacities line vs ps (N.At n) vs ps → Leads (record { line = n; left = left })
+    unchanged : (n : ℕ) → Stepped (commands l) capacities line vs ps (Some n) vs ps → Leads (record { line = n; left = left })
     unchanged n h = rw (set-get_or ps d 0) h
 
     leads : 3 < kind_at l m → d < length ps → Leads (led (kind_at l m) x left (line + 1) t)
@@ -386,5 +384,5 @@ module _ (l : List ℕ) (h : Holds l) (capacities : List ℕ) (line : ℕ) (low 
             rw (ne_eqb (kind_at l m) 4 a, ne_eqb (kind_at l m) 5 q, ne_eqb (kind_at l m) 6 r) (unchanged t (while_back is))
 
     pub led_on : 3 < kind_at l m → d < length ps → (r : ℕ) (ps' : List ℕ) → Left ts es (kind_at l m) x line ps r ps'
-        → Stepped (commands l) capacities line vs ps (N.At r) vs ps'
+        → Stepped (commands l) capacities line vs ps (Some r) vs ps'
     led_on pair b r ps' went = rw (went.to, went.passes) (leads pair b)

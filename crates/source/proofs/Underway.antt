@@ -9,6 +9,7 @@ use native.Mathlib.Omega.{arith}
 use borrow.Author.Tests.{lt-ltb, eq-eqb, ne_eqb}
 use lib.ListN.{length}
 use lib.Dec.{ltb}
+use Rattle.std.specs.Prelude.{Some, None}
 use Rattle.theory.specs.Limits.{last_count, state_values, state_passes}
 use Rattle.theory.specs.Runs.{Machine, Outcome}
 use Rattle.theory.specs.Source as S
@@ -18,7 +19,6 @@ use Rattle.theory.proofs.Budgets.{Underway, underway_start, underway_ended, unde
 use Rattle.theory.specs.ProgramText.{commands}
 use Rattle.source_state.specs.Answers.{stands}
 use Rattle.source.specs.Lines.{Stepped, machine_of, run_at}
-use Rattle.source.specs.declared.steps.Next.TheVariants as N
 
 -- Of the run that ends as o, so many steps are taken, and it stands so
 pub record Going (l capacities : List ℕ) (o : Outcome S.State) (allowed taken line : ℕ) (vs ps : List ℕ) : Type 0 where
@@ -85,13 +85,13 @@ module _ (l capacities : List ℕ) (o : Outcome S.State) (allowed taken line : �
       counted : ltb taken last_count ≡ true
       counted = lt-ltb taken last_count (omega (arith, g.enough))
 
-      pub going_full : (vs' ps' : List ℕ) → Stepped (commands l) capacities line vs ps N.Full vs' ps'
+      pub going_full : (vs' ps' : List ℕ) → Stepped (commands l) capacities line vs ps None vs' ps'
           → o ≡ record { end = Full; steps = taken; state = stands line vs' ps' }
       going_full vs' ps' step =
           rw (step.kept.0, step.kept.1)
           (underway_full M o taken (allowed - taken) taken at g.left b one_less goes counted step.next)
 
-      pub going_on : (next : ℕ) (vs' ps' : List ℕ) → Stepped (commands l) capacities line vs ps (N.At next) vs' ps'
+      pub going_on : (next : ℕ) (vs' ps' : List ℕ) → Stepped (commands l) capacities line vs ps (Some next) vs' ps'
           → length vs' ≡ length vs → length ps' ≡ length ps → Going l capacities o allowed (taken + 1) next vs' ps'
       unfolding b
       going_on next vs' ps' step v p = record {

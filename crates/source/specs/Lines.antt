@@ -1,6 +1,7 @@
 -- What the private functions of this crate say of the lines of a list, of the tables filled for a run, of a step, of a run and of rule 9.
-use Rattle.std.specs.Prelude.{◌≡◌, Bool, cond, List, ℕ, suc, pred, ◌+◌, ◌-◌, ◌*◌, ◌≤◌, ◌<◌, length, get_or, set, eqb}
-use Rattle.std.proofs.Math.Option.{Option, none, some}
+use Rattle.std.specs.Prelude.{◌≡◌, Bool, cond, List, ℕ, suc, pred, ◌+◌, ◌-◌, ◌*◌, ◌≤◌, ◌<◌, length, get_or, set, eqb, Option, Some, None}
+use Rattle.std.proofs.Math.Option as Math
+use Rattle.std.proofs.Math.Option.{none, some}
 use Rattle.theory.specs.Limits.{most_lines, most_capacity, state_values, state_passes}
 use Rattle.theory.specs.Basics.{all_below}
 use Rattle.theory.specs.ProgramText.{Command, plain, clear, increment, copy, opens, closes, loop, while, list_of, variables, commands}
@@ -12,10 +13,7 @@ use Rattle.theory.specs.TurnedDown.{is_passes}
 use Rattle.theory.specs.Claims.{Accepted}
 use Rattle.source_state.specs.Answers.{stands}
 use Rattle.source_state.specs.Numbers.{led, is_value_within, is_passes_within}
-use Rattle.source_state.specs.declared.step.Stored.{Stored}
 use Rattle.source_state.specs.declared.step.Led.{Led}
-use Rattle.source.specs.declared.steps.Next.{Next}
-use Rattle.source.specs.declared.steps.Next.TheVariants as N
 use Rattle.source.specs.declared.steps.Stop.{Stop}
 
 -- The list holds an accepted program, and nothing else
@@ -99,9 +97,9 @@ pub record Storing (vs capacities : List ℕ) (i j : ℕ) : Type 0 where
   pub second : j < state_values
 
 -- It is stored in variable i, and the next line follows; or the step is full, and changes nothing
-abbrev pub Put : Stored → ℕ → ℕ → List ℕ → Next → List ℕ → Type 0
-Put (Stored.Value v) next i vs r vs' = (r ≡ N.At next) × (vs' ≡ set vs i v)
-Put Stored.Full next i vs r vs' = (r ≡ N.Full) × (vs' ≡ vs)
+abbrev pub Put : Option ℕ → ℕ → ℕ → List ℕ → Option ℕ → List ℕ → Type 0
+Put (Some v) next i vs r vs' = (r ≡ Some next) × (vs' ≡ set vs i v)
+Put None next i vs r vs' = (r ≡ None) × (vs' ≡ vs)
 
 -- The tables have a target and an entry for the line, and the entry is one of the passes-left
 pub record Leading (ps targets entries : List ℕ) (line : ℕ) : Type 0 where
@@ -131,21 +129,21 @@ pub record Ready (l targets entries capacities : List ℕ) (line : ℕ) (vs ps :
   pub passes_are : length ps ≡ state_passes
 
 -- What a step hands back, with the lists as they are then
-abbrev pub next_of : Next → List ℕ → List ℕ → Option S.State
-next_of (N.At n) vs ps = some (stands n vs ps)
-next_of N.Full vs ps = none
+abbrev pub next_of : Option ℕ → List ℕ → List ℕ → Math.Option S.State
+next_of (Some n) vs ps = some (stands n vs ps)
+next_of None vs ps = none
 
 -- The line is one of the program, or the line after its last
-abbrev pub Within : List Command → Next → Type 0
-Within p (N.At n) = (0 < n) × (n ≤ suc (length p))
-Within p N.Full = Unit {0}
+abbrev pub Within : List Command → Option ℕ → Type 0
+Within p (Some n) = (0 < n) × (n ≤ suc (length p))
+Within p None = Unit {0}
 
 -- A full step leaves the lists as they were
-abbrev pub Kept : Next → List ℕ → List ℕ → List ℕ → List ℕ → Type 0
-Kept (N.At n) vs ps vs' ps' = Unit {0}
-Kept N.Full vs ps vs' ps' = (vs' ≡ vs) × (ps' ≡ ps)
+abbrev pub Kept : Option ℕ → List ℕ → List ℕ → List ℕ → List ℕ → Type 0
+Kept (Some n) vs ps vs' ps' = Unit {0}
+Kept None vs ps vs' ps' = (vs' ≡ vs) × (ps' ≡ ps)
 
-pub record Stepped (p : List Command) (capacities : List ℕ) (line : ℕ) (vs ps : List ℕ) (r : Next) (vs' ps' : List ℕ) : Type 0 where
+pub record Stepped (p : List Command) (capacities : List ℕ) (line : ℕ) (vs ps : List ℕ) (r : Option ℕ) (vs' ps' : List ℕ) : Type 0 where
   pub next : S.step (within_each (capacity_of capacities)) p (stands line vs ps) ≡ next_of r vs' ps'
   pub inside : Within p r
   pub kept : Kept r vs ps vs' ps'

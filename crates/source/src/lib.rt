@@ -6,15 +6,15 @@ mod lines; // lines.rt: where the lines of pairs lead
 mod rule9; // rule9.rt: whether a state is one of the program's
 mod steps; // steps.rt: a step, and the steps of a run
 
-ghost use Rattle.std.specs.Prelude.{◌≡◌, min};
+ghost use Rattle.std.specs.Prelude.{◌≡◌, Err};
 ghost use Rattle.theory.specs.TurnedDown.{read_text_under, read_list_under, run_from, run_program};
 ghost use Rattle.theory.specs.ProgramText.{commands};
 ghost use Rattle.source_state.specs.Answers.{source_state, HandsBack};
 ghost use Rattle.source.specs.Lines.{Given};
 
-use program::{Checked, Program};
-pub use source_state::{Ended, Run, State};
-use theory::{Refusal, Setting};
+use program::Program;
+pub use source_state::{Run, State};
+use theory::{Ended, Refusal, Setting};
 
 // Rule 9.
 const NONE_OF_ITS_STATES: Refusal = Refusal {
@@ -24,19 +24,12 @@ const NONE_OF_ITS_STATES: Refusal = Refusal {
 
 // A run that is refused.
 fn refused(state: State, refusal: Refusal) -> Run
-    ensures { result ≡ record { state = state; ended = Ended.Refused refusal } }
+    ensures { result ≡ record { state = state; ended = Err refusal } }
 {
     Run {
         state,
-        ended: Ended::Refused(refusal),
+        ended: Err(refusal),
     }
-}
-
-// The lesser of two numbers.
-fn least(a: u32, b: u32) -> u32
-    ensures { result ≡ min a b }
-{
-    if a < b { a } else { b }
 }
 
 // A run of an accepted program: rule 9, and then the steps. Targets and entries are found here, once for the run.
@@ -54,7 +47,7 @@ fn run_accepted(list: &[u8], lines: usize, variables: usize, state: State, budge
     let capacities = state.capacities;
     let mut values = state.values;
     let mut passes = state.passes;
-    let allowed = least(budget, State::STEPS - state.steps);
+    let allowed = budget.min(State::STEPS - state.steps);
     let stop = steps::walk(
         list,
         &targets,
@@ -77,7 +70,10 @@ fn run_accepted(list: &[u8], lines: usize, variables: usize, state: State, budge
     };
     Run {
         state: after,
-        ended: Ended::Ran(end, stop.taken),
+        ended: Ok(Ended {
+            end,
+            steps: stop.taken,
+        }),
     }
 }
 
@@ -86,8 +82,8 @@ pub fn run_list(setting: Setting, list: &[u8], state: State, budget: u32) -> Run
     ensures { HandsBack state (run_program (read_list_under setting list.now) (source_state state) budget) result }
 {
     match program::check_list(setting, list) {
-        Checked::Accepted(p) => run_accepted(list, p.lines, p.variables, state, budget),
-        Checked::Refused(refusal) => refused(state, refusal),
+        Ok(p) => run_accepted(list, p.lines, p.variables, state, budget),
+        Err(refusal) => refused(state, refusal),
     }
 }
 
@@ -97,10 +93,10 @@ pub fn run_text(setting: Setting, text: &[u8], state: State, budget: u32) -> Run
 {
     let mut list = [0u8; Program::NUMBERS];
     match program::read(setting, text, &mut list) {
-        Checked::Accepted(p) => {
+        Ok(p) => {
             let numbers = 3 * p.lines;
             run_accepted(&list[..numbers], p.lines, p.variables, state, budget)
         }
-        Checked::Refused(refusal) => refused(state, refusal),
+        Err(refusal) => refused(state, refusal),
     }
 }

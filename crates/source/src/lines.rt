@@ -11,20 +11,17 @@ pub fn fill_entries(list: &[u8], lines: usize, entries: &mut [u8])
     ensures { Entered list.now entries.new }
 {
     let mut deep: u8 = 0;
-    let mut n = 0;
-    while n < lines {
-        let here = n;
-        n += 1;
-        match list[3 * here] {
+    for n in 0..lines {
+        match list[3 * n] {
             LOOP => {
-                entries[here] = deep;
+                entries[n] = deep;
                 deep += 1;
             }
             ENDLOOP => {
                 deep -= 1;
-                entries[here] = deep;
+                entries[n] = deep;
             }
-            _ => entries[here] = deep,
+            _ => entries[n] = deep,
         }
     }
 }
@@ -45,22 +42,19 @@ pub fn fill_targets(list: &[u8], lines: usize, targets: &mut [u16])
 {
     let mut stack = [0usize; Program::OPEN];
     let mut deep = 0;
-    let mut n = 0;
-    while n < lines {
-        let here = n;
-        n += 1;
-        match list[3 * here] {
+    for n in 0..lines {
+        match list[3 * n] {
             LOOP | WHILE => {
-                stack[deep] = here;
+                stack[deep] = n;
                 deep += 1;
             }
             ENDLOOP => {
                 deep -= 1;
-                link(targets, stack[deep], here, 2);
+                link(targets, stack[deep], n, 2);
             }
             ENDWHILE => {
                 deep -= 1;
-                link(targets, stack[deep], here, 1);
+                link(targets, stack[deep], n, 1);
             }
             _ => {}
         }

@@ -17,8 +17,7 @@ fn are_capacities(capacities: &[u32], variables: usize) -> bool
     requires { (length capacities.now ≡ state_values) × (variables ≤ state_values) }
     ensures { result ≡ all_capacities capacities.now variables }
 {
-    let mut i = 0;
-    while i < variables {
+    for i in 0..variables {
         let capacity = capacities[i];
         if capacity < 1 {
             return false;
@@ -26,7 +25,6 @@ fn are_capacities(capacities: &[u32], variables: usize) -> bool
         if State::CAPACITY < capacity {
             return false;
         }
-        i += 1;
     }
     true
 }
@@ -36,12 +34,10 @@ fn are_values(values: &[u32], capacities: &[u32], variables: usize) -> bool
     requires { (length values.now ≡ state_values) × (length capacities.now ≡ state_values) }
     ensures { result ≡ all_values capacities.now variables values.now }
 {
-    let mut i = 0;
-    while i < State::VALUES {
-        if !is_good_value(values[i], i, capacities[i], variables) {
+    for (i, v) in values.iter().enumerate() {
+        if !is_good_value(*v, i, capacities[i], variables) {
             return false;
         }
-        i += 1;
     }
     true
 }
@@ -51,12 +47,10 @@ fn are_passes(passes: &[u32], bounds: &[u32], depth: usize) -> bool
     requires { (length passes.now ≡ state_passes) × (length bounds.now ≡ state_passes) }
     ensures { result ≡ all_passes bounds.now depth passes.now }
 {
-    let mut d = 0;
-    while d < State::PASSES {
-        if !is_good_passes(passes[d], d, bounds[d], depth) {
+    for (d, k) in passes.iter().enumerate() {
+        if !is_good_passes(*k, d, bounds[d], depth) {
             return false;
         }
-        d += 1;
     }
     true
 }
@@ -70,7 +64,7 @@ fn depth_at(list: &[u8], entries: &[u8], lines: usize, line: usize) -> usize
         return 0;
     }
     let here = line - 1;
-    let entry = entries[here] as usize;
+    let entry = usize::from(entries[here]);
     if list[3 * here] == ENDLOOP {
         entry + 1
     } else {
@@ -83,14 +77,10 @@ fn fill_bounds(list: &[u8], entries: &[u8], line: usize, capacities: &[u32], bou
     requires { Bounding list.now entries.now line capacities.now bounds.old }
     ensures { Bounded list.now line capacities.now bounds.new }
 {
-    let before = line - 1;
-    let mut n = 0;
-    while n < before {
-        let here = n;
-        n += 1;
-        if list[3 * here] == LOOP {
-            let d = entries[here] as usize;
-            let i = list[3 * here + 1] as usize;
+    for n in 0..line - 1 {
+        if list[3 * n] == LOOP {
+            let d = usize::from(entries[n]);
+            let i = usize::from(list[3 * n + 1]);
             bounds[d] = capacities[i];
         }
     }

@@ -5,37 +5,33 @@ ghost use Rattle.source.specs.Lines.{Storing, Put, Leading, Left, Ready, Stepped
 ghost use Rattle.theory.specs.ProgramText.{commands};
 
 use command::COPY;
-use source_state::{Stored, lead, store};
+use source_state::{lead, store};
 use theory::End;
 
-// The line after a step; or the step would be full.
-#[derive(Drop)]
-enum Next {
-    At(u32),
-    Full,
-}
-
 // Where the steps stopped, how many they were, and why.
-#[derive(Drop)]
+#[derive(Clone, Copy)]
 pub struct Stop {
     pub line: u32,
     pub taken: u32,
     pub end: End,
 }
 
-// Does a plain command on its variables: the next line, or full. A full step changes nothing.
-fn store_in(values: &mut [u32], capacities: &[u32], kind: u8, i: usize, j: usize, next: u32) -> Next
+// Does a plain command on its variables: the next line, or `None` where the step would be full. A full step changes nothing.
+fn store_in(
+    values: &mut [u32],
+    capacities: &[u32],
+    kind: u8,
+    i: usize,
+    j: usize,
+    next: u32,
+) -> Option<u32>
     requires { Storing values.old capacities.now i j }
     ensures { Put (stored kind (get_or values.old i 0) (get_or values.old j 0) (get_or capacities.now i 0))
         next i values.old result values.new }
 {
-    match store(kind, values[i], values[j], capacities[i]) {
-        Stored::Value(v) => {
-            values[i] = v;
-            Next::At(next)
-        }
-        Stored::Full => Next::Full,
-    }
+    let v = store(kind, values[i], values[j], capacities[i])?;
+    values[i] = v;
+    Some(next)
 }
 
 // Does a line of a pair on its entry of the passes-left, by what its variable holds: the next line.
@@ -51,14 +47,14 @@ fn lead_on(
     ensures { Left targets.now entries.now kind held line passes.old result passes.new }
 {
     let here = line as usize - 1;
-    let target = targets[here] as u32;
-    let d = entries[here] as usize;
+    let target = u32::from(targets[here]);
+    let d = usize::from(entries[here]);
     let led = lead(kind, held, passes[d], line + 1, target);
     passes[d] = led.left;
     led.line
 }
 
-// A step at a line of the program: the next line, or full.
+// A step at a line of the program: the next line, or `None` where the step would be full.
 fn step(
     list: &[u8],
     targets: &[u16],
@@ -67,19 +63,19 @@ fn step(
     line: u32,
     values: &mut [u32],
     passes: &mut [u32],
-) -> Next
+) -> Option<u32>
     requires { Ready list.now targets.now entries.now capacities.now line values.old passes.old }
     ensures { Stepped (commands list.now) capacities.now line
         values.old passes.old result values.new passes.new }
 {
     let at = 3 * (line as usize - 1);
     let kind = list[at];
-    let i = list[at + 1] as usize;
+    let i = usize::from(list[at + 1]);
     if kind <= COPY {
-        let j = list[at + 2] as usize;
+        let j = usize::from(list[at + 2]);
         return store_in(values, capacities, kind, i, j, line + 1);
     }
-    Next::At(lead_on(passes, targets, entries, kind, values[i], line))
+    Some(lead_on(passes, targets, entries, kind, values[i], line))
 }
 
 // Steps until the line after the last, until so many are taken, or until one is full.
@@ -110,8 +106,8 @@ pub fn walk(
             };
         }
         match step(list, targets, entries, capacities, line, values, passes) {
-            Next::At(next) => line = next,
-            Next::Full => return Stop {
+            Some(next) => line = next,
+            None => return Stop {
                 line,
                 taken,
                 end: End::Full,

@@ -1,5 +1,5 @@
 -- What a run of a source hands back (document 01, "Machines of the set" and rule 9), as values of the crate's types.
-use Rattle.std.specs.Prelude.{◌≡◌, List, ℕ, ◌+◌, get_or, replicate}
+use Rattle.std.specs.Prelude.{◌≡◌, List, ℕ, ◌+◌, get_or, replicate, Result, Ok, Err}
 use Rattle.theory.specs.Basics.{cells}
 use Rattle.theory.specs.Limits.{state_values, state_passes}
 use Rattle.theory.specs.Runs.{Outcome}
@@ -8,8 +8,8 @@ use Rattle.theory.specs.Machines.{SourceState, fresh_source}
 use Rattle.theory.specs.TurnedDown.{Answer, done, refused}
 use Rattle.source_state.specs.declared.State.{State}
 use Rattle.source_state.specs.declared.Run.{Run}
-use Rattle.source_state.specs.declared.Ended.{Ended}
-use Rattle.source_state.specs.declared.Ended.TheVariants as E
+use Rattle.theory.specs.declared.Ended.{Ended}
+use Rattle.theory.specs.declared.Refusal.{Refusal}
 
 -- A line, values and passes left, as the definitions have them: past the end of a list stands 0
 abbrev pub stands : ℕ → List ℕ → List ℕ → S.State
@@ -32,9 +32,9 @@ pub record Fresh (capacities values : List ℕ) (r : State) : Type 0 where
   pub stands : source_state r ≡ fresh_from capacities values
 
 -- How it ended
-unfoldable pub ended_by : Answer (Outcome S.State) → Ended
-ended_by (done o) = E.Ran o.end o.steps
-ended_by (refused x) = E.Refused x
+unfoldable pub ended_by : Answer (Outcome S.State) → Result Ended Refusal
+ended_by (done o) = Ok (record { end = o.end; steps = o.steps })
+ended_by (refused x) = Err x
 
 -- The state afterwards, as the set keeps it; a refusal hands back the state as it was
 unfoldable pub state_by : State → Answer (Outcome S.State) → State

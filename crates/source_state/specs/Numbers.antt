@@ -1,16 +1,14 @@
 -- What a step does to the numbers of a state, and rule 9 of one number.
-use Rattle.std.specs.Prelude.{Bool, cond, ℕ, suc, ◌+◌, ◌-◌, eqb, ltb, leb}
+use Rattle.std.specs.Prelude.{Bool, cond, ℕ, suc, ◌+◌, ◌-◌, eqb, ltb, leb, Option, Some, None}
 use Rattle.theory.specs.Machines.{is_limited}
-use Rattle.source_state.specs.declared.step.Stored.{Stored}
-use Rattle.source_state.specs.declared.step.Stored.TheVariants as Stored
 use Rattle.source_state.specs.declared.step.Led.{Led}
 
--- What a plain command of kind k stores, by what its first variable holds and its second, and the capacity of the first
-unfoldable pub stored : ℕ → ℕ → ℕ → ℕ → Stored
+-- What a plain command of kind k stores, by what its first variable holds and its second, and the capacity of the first; none: it is full
+unfoldable pub stored : ℕ → ℕ → ℕ → ℕ → Option ℕ
 stored k held source capacity =
-    cond (eqb k 1) (Stored.Value 0)
-    (cond (eqb k 2) (cond (leb (suc held) capacity) (Stored.Value (held + 1)) Stored.Full)
-    (cond (leb source capacity) (Stored.Value source) Stored.Full))
+    cond (eqb k 1) (Some 0)
+    (cond (eqb k 2) (cond (leb (suc held) capacity) (Some (held + 1)) None)
+    (cond (leb source capacity) (Some source) None))
 
 -- Where a line of a pair of kind k leads, and the passes left then, by what its variable holds and the passes left before
 unfoldable pub led : ℕ → ℕ → ℕ → ℕ → ℕ → Led

@@ -8,8 +8,8 @@ mod step; // step.rt: what a step does, by numbers
 ghost use Rattle.source_state.specs.Answers.{Fresh};
 
 pub use rule9::{is_good_passes, is_good_value};
-pub use step::{Led, Stored, lead, store};
-use theory::{End, Refusal};
+pub use step::{Led, lead, store};
+use theory::{Ended, Refusal};
 
 // Where a run stands: the capacity of each variable, the line, the count of steps, the variables, and the passes left of each loop around
 // the line, by the number of loops around that loop.
@@ -47,16 +47,9 @@ impl State {
     }
 }
 
-// How a run ended and the steps that it took, or why it was refused.
-#[derive(Clone, Copy)]
-pub enum Ended {
-    Ran(End, u32),
-    Refused(Refusal),
-}
-
-// What a run hands back. A refusal leaves the state as it was.
+// What a run hands back: the state then, and how it ended, or why it was refused. A refusal leaves the state as it was.
 #[derive(Clone, Copy)]
 pub struct Run {
     pub state: State,
-    pub ended: Ended,
+    pub ended: Result<Ended, Refusal>,
 }

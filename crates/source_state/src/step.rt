@@ -4,39 +4,32 @@ ghost use Rattle.source_state.specs.Numbers.{stored, led};
 
 use command::{CLEAR, ENDLOOP, INCREMENT, LOOP, WHILE};
 
-// What a plain command stores in its variable; or the step would be full.
-#[derive(Drop)]
-pub enum Stored {
-    Value(u32),
-    Full,
-}
-
 // The line after a step at a line of a pair, and the passes left then of the loop that the line opens or closes.
-#[derive(Drop)]
+#[derive(Clone, Copy)]
 pub struct Led {
     pub line: u32,
     pub left: u32,
 }
 
-// A plain command, by what its variable holds, of a copy what the variable that is copied holds, and the capacity of the first.
-pub fn store(kind: u8, held: u32, source: u32, capacity: u32) -> Stored
+// What a plain command stores in its variable, by what that holds, of a copy what the variable that is copied holds, and the capacity of
+// the first; `None` where the step would be full.
+pub fn store(kind: u8, held: u32, source: u32, capacity: u32) -> Option<u32>
     ensures { result ≡ stored kind held source capacity }
 {
     match kind {
-        CLEAR => Stored::Value(0),
+        CLEAR => Some(0),
         INCREMENT => {
             if held < capacity {
-                let more = held + 1;
-                Stored::Value(more)
+                Some(held + 1)
             } else {
-                Stored::Full
+                None
             }
         }
         _ => {
             if source <= capacity {
-                Stored::Value(source)
+                Some(source)
             } else {
-                Stored::Full
+                None
             }
         }
     }

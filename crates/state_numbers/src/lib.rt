@@ -1,7 +1,7 @@
 // A source's state as numbers in one slice: the capacities, line, steps, then the values, then the passes-left.
 #![tactic(auto)]
 
-ghost use Rattle.std.specs.Prelude.{◌≡◌, length};
+ghost use Rattle.std.specs.Prelude.{◌≡◌};
 ghost use Rattle.state_numbers.specs.Numbers.{lent_state, kept_numbers};
 
 use source_state::State;
@@ -16,18 +16,6 @@ const VALUES: usize = 34;
 const PASSES: usize = 66;
 
 const NUMBERS: usize = 82;
-
-// Copies all of one slice into another.
-fn copy(from: &[u32], to: &mut [u32])
-    requires { length to.old ≡ length from.now }
-    ensures { to.new ≡ from.now }
-{
-    let mut i: usize = 0;
-    while i < from.len() {
-        to[i] = from[i];
-        i += 1;
-    }
-}
 
 // The state that the numbers are. Another number of them is no state: it is taken for one at line 0, which is none of any program's, so
 // that a run from it is refused by rule 9 in its turn.
@@ -46,9 +34,9 @@ pub fn state_of(numbers: &[u32]) -> State
             passes,
         };
     }
-    copy(&numbers[0..LINE], &mut capacities);
-    copy(&numbers[VALUES..PASSES], &mut values);
-    copy(&numbers[PASSES..NUMBERS], &mut passes);
+    capacities.copy_from_slice(&numbers[0..LINE]);
+    values.copy_from_slice(&numbers[VALUES..PASSES]);
+    passes.copy_from_slice(&numbers[PASSES..NUMBERS]);
     let line = numbers[LINE];
     let steps = numbers[STEPS];
     State {
@@ -67,12 +55,9 @@ pub fn put_state(state: State, numbers: &mut [u32])
     if numbers.len() != NUMBERS {
         return;
     }
-    let capacities = state.capacities;
-    let values = state.values;
-    let passes = state.passes;
-    copy(&capacities, &mut numbers[0..LINE]);
-    copy(&values, &mut numbers[VALUES..PASSES]);
-    copy(&passes, &mut numbers[PASSES..NUMBERS]);
+    numbers[0..LINE].copy_from_slice(&state.capacities);
+    numbers[VALUES..PASSES].copy_from_slice(&state.values);
+    numbers[PASSES..NUMBERS].copy_from_slice(&state.passes);
     numbers[LINE] = state.line;
     numbers[STEPS] = state.steps;
 }

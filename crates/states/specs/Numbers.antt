@@ -1,11 +1,12 @@
 -- What a run from a source state that is lent as 82 numbers hands back.
-use Rattle.std.specs.Prelude.{◌≡◌, cond, List, ℕ, length, eqb}
+use Rattle.std.specs.Prelude.{◌≡◌, cond, List, ℕ, length, eqb, Result}
 use Rattle.theory.specs.ProgramText.{Command}
 use Rattle.theory.specs.Runs.{Outcome}
 use Rattle.theory.specs.Source as S
 use Rattle.theory.specs.TurnedDown.{Answer, done, refused, after, run_from}
 use Rattle.source_state.specs.Answers.{source_state, ended_by, state_by, moved_by}
-use Rattle.source_state.specs.declared.Ended.{Ended}
+use Rattle.theory.specs.declared.Ended.{Ended}
+use Rattle.theory.specs.declared.Refusal.{Refusal}
 use Rattle.state_numbers.specs.Numbers.{state_numbers, state_of, numbers_of}
 
 -- A program run from the numbers lent: another number of them is rule 9, as what they say is
@@ -27,6 +28,6 @@ pub record LentAfter (l : List ℕ) (a : Answer (Outcome S.State)) (l' : List �
   pub stands : source_state (state_of l') ≡ moved_by (source_state (state_of l)) a
 
 -- A program handed in as A, run from the numbers lent
-pub record RunsLent (A : Answer (List Command)) (l : List ℕ) (budget : ℕ) (r : Ended) (l' : List ℕ) : Type 0 where
+pub record RunsLent (A : Answer (List Command)) (l : List ℕ) (budget : ℕ) (r : Result Ended Refusal) (l' : List ℕ) : Type 0 where
   pub ended : r ≡ ended_by (after A (run_numbers l budget))
   pub state_after : LentAfter l (after A (run_numbers l budget)) l'

@@ -1,5 +1,5 @@
 // The numbers of a table by their places, and what is counted of it. A number that is missing counts as 0.
-ghost use Rattle.std.specs.Prelude.{◌≡◌, max, get_or};
+ghost use Rattle.std.specs.Prelude.{◌≡◌, get_or};
 ghost use Rattle.word.specs.Answers.{zipped};
 ghost use Rattle.tally.specs.Tallies.{tally_of};
 
@@ -9,35 +9,27 @@ use tally::{Tally, with_entry};
 pub fn kind_at(kinds: &[u8], i: usize) -> u8
     ensures { result ≡ get_or kinds.now i 0 }
 {
-    if i < kinds.len() { kinds[i] } else { 0 }
+    kinds.get(i).copied().unwrap_or(0)
 }
 
 pub fn operand_at(operands: &[u32], i: usize) -> u32
     ensures { result ≡ get_or operands.now i 0 }
 {
-    if i < operands.len() { operands[i] } else { 0 }
-}
-
-pub fn longer(a: usize, b: usize) -> usize
-    ensures { result ≡ max a b }
-{
-    if a < b { b } else { a }
+    operands.get(i).copied().unwrap_or(0)
 }
 
 // The tally of a table of numbers. A number that is missing counts as 0.
 pub fn counted(kinds: &[u8], operands: &[u32]) -> Tally
     ensures { result ≡ tally_of (zipped kinds.now operands.now) }
 {
-    let count = longer(kinds.len(), operands.len());
+    let count = kinds.len().max(operands.len());
     let mut t = Tally {
         size: 0,
         good: 0,
         count: 0,
     };
-    let mut i: usize = 0;
-    while i < count {
+    for i in 0..count {
         t = with_entry(t, kind_at(kinds, i), operand_at(operands, i));
-        i += 1;
     }
     t
 }

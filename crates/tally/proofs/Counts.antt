@@ -1,4 +1,6 @@
 -- What is counted of a table, entry by entry, and what rules 11, 13 and 14 come to by it.
+use Rattle.theory.specs.declared.Refusal.{Refusal}
+use Rattle.std.specs.Prelude.{Result, Ok, Err}
 use mathlib.Core.Path.{◌≡◌, refl, sym, ap, ◌∙◌}
 use mathlib.Core.Logic.{⊎_elim}
 use mathlib.Core.Bool.{Bool, true, false, cond, ◌&&◌}
@@ -14,8 +16,6 @@ use Rattle.theory.specs.Word.{Entry}
 use Rattle.theory.specs.TurnedDown.{total, bad_entry, read_table, table_fault, table_rule_11, first_along, next_entry, rule_13, rule_14}
 use Rattle.theory.proofs.Words.{total-append}
 use Rattle.tally.specs.declared.Tally.{Tally}
-use Rattle.word.specs.declared.answers.Read.{Read}
-use Rattle.word.specs.declared.answers.Read.TheVariants.{Done, Refused}
 use Rattle.word.specs.Answers.{read_answer}
 use Rattle.text.specs.Runs.{leading}
 use Rattle.tally.specs.Tallies.{is_bad, is_good, longest, tally_of, noted, judged}
@@ -112,7 +112,7 @@ bad_none n (e ∷ t) h = go (is_good e) refl (bad_none (suc n) t)
 
 -- The answer for a whole table
 module _ (t : List Entry) where
-  abbrev Answered : Read → Type 0
+  abbrev Answered : Result ℕ Refusal → Type 0
   Answered r = r ≡ read_answer (read_table t)
 
   abbrev Sized : Type 0
@@ -121,40 +121,40 @@ module _ (t : List Entry) where
   sized : Sized → (leb 1 (length t) && leb (total t) Limits.most_symbols) ≡ true
   sized h = rw (le-leb 1 (length t) h.0, le-leb (total t) Limits.most_symbols h.1)
 
-  no_entry : length t ≡ 0 → Answered (Refused (record { number = 11; place = 0 }))
+  no_entry : length t ≡ 0 → Answered (Err (record { number = 11; place = 0 }))
   unfolding read_table table_fault table_rule_11
   no_entry h = rw h
 
-  too_large : 1 ≤ length t → Limits.most_symbols < total t → Answered (Refused (record { number = 11; place = 0 }))
+  too_large : 1 ≤ length t → Limits.most_symbols < total t → Answered (Err (record { number = 11; place = 0 }))
   unfolding read_table table_fault table_rule_11
   too_large g h = rw (le-leb 1 (length t) g, lt-leb (total t) Limits.most_symbols h)
 
-  one_bad : Sized → leading is_good t < length t → Answered (Refused (record { number = 13; place = leading is_good t }))
+  one_bad : Sized → leading is_good t < length t → Answered (Err (record { number = 13; place = leading is_good t }))
   unfolding read_table table_fault table_rule_11 rule_13
   one_bad s h = let here : 0 + leading is_good t ≡ leading is_good t = omega arith in rw (sized s, bad_some 0 t h, here)
 
   too_many : Sized → leading is_good t ≡ length t → Limits.most_instructions < length t
-      → Answered (Refused (record { number = 14; place = Limits.most_instructions }))
+      → Answered (Err (record { number = 14; place = Limits.most_instructions }))
   unfolding read_table table_fault table_rule_11 rule_13 rule_14
   too_many s g h = rw (sized s, bad_none 0 t g, lt-leb (length t) Limits.most_instructions h)
 
-  pub accepted : Sized → leading is_good t ≡ length t → length t ≤ Limits.most_instructions → Answered (Done (length t))
+  pub accepted : Sized → leading is_good t ≡ length t → length t ≤ Limits.most_instructions → Answered (Ok (length t))
   unfolding read_table table_fault table_rule_11 rule_13 rule_14
   accepted s g h = rw (sized s, bad_none 0 t g, le-leb (length t) Limits.most_instructions h)
 
   -- `judge` takes these tests in their order
-  abbrev by_count : Bool → Read
-  by_count b = cond b (Refused (record { number = 14; place = Limits.most_instructions })) (Done (length t))
+  abbrev by_count : Bool → Result ℕ Refusal
+  by_count b = cond b (Err (record { number = 14; place = Limits.most_instructions })) (Ok (length t))
 
-  abbrev by_good : Bool → Read
-  by_good b = cond b (Refused (record { number = 13; place = leading is_good t })) (by_count (ltb Limits.most_instructions (length t)))
+  abbrev by_good : Bool → Result ℕ Refusal
+  by_good b = cond b (Err (record { number = 13; place = leading is_good t })) (by_count (ltb Limits.most_instructions (length t)))
 
-  abbrev by_size : Bool → Read
-  by_size b = cond b (Refused (record { number = 11; place = 0 })) (by_good (ltb (leading is_good t) (length t)))
+  abbrev by_size : Bool → Result ℕ Refusal
+  by_size b = cond b (Err (record { number = 11; place = 0 })) (by_good (ltb (leading is_good t) (length t)))
 
-  abbrev by_entries : Bool → Read
+  abbrev by_entries : Bool → Result ℕ Refusal
   by_entries b =
-      cond b (Refused (record { number = 11; place = 0 })) (by_size (ltb Limits.most_symbols (min (total t) (suc Limits.most_symbols))))
+      cond b (Err (record { number = 11; place = 0 })) (by_size (ltb Limits.most_symbols (min (total t) (suc Limits.most_symbols))))
 
   counts : Sized → leading is_good t ≡ length t → (b : Bool) → ltb Limits.most_instructions (length t) ≡ b → Answered (by_count b)
   counts s g true e = too_many s g (ltb-true Limits.most_instructions (length t) e)

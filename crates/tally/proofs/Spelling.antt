@@ -1,4 +1,5 @@
 -- A table written as a word: what is answered by its tally, and what is written then.
+use Rattle.std.specs.Prelude.{Result, Ok, Err}
 use mathlib.Core.Path.{◌≡◌, refl, sym, ap, ◌∙◌}
 use mathlib.Core.Bool.{Bool, true, false}
 use mathlib.Core.Option.{Option, none, some}
@@ -16,15 +17,13 @@ use Rattle.theory.proofs.Words.{word-length, table_good}
 use Rattle.output.specs.Puts.{starting}
 use Rattle.output.proofs.Puts.{starting-whole}
 use Rattle.instruction.specs.Instructions.{text}
-use Rattle.word.specs.declared.answers.Written.{Written}
-use Rattle.word.specs.declared.answers.Written.TheVariants.{Done, Refused}
 use Rattle.word.specs.Answers.{written_answer, WritesInto}
 use Rattle.tally.specs.declared.Tally.{Tally}
 use Rattle.tally.specs.Tallies.{tally_of, answered}
 use Rattle.tally.proofs.Counts.{judged_tally}
 
 -- An answer is not both
-never : {P : Type 0} (n : ℕ) (f : Refusal) → Done n ≡ Refused f → P
+never : {P : Type 0} (n : ℕ) (f : Refusal) → Ok n ≡ Err f → P
 never n f h = absurd (let x : ◌≡◌ {A = ℕ} 0 1 = cc in omega arith)
 
 module _ (t : List Entry) (word : Bytes) where
@@ -45,14 +44,14 @@ module _ (t : List Entry) (word : Bytes) where
           rw (judged_tally t, e, size_of e, l, lt-leb (length (text t)) (length word) short)
       room e false l =
           let long : length (text t) ≤ length word = omega (arith, word-length t, ltb-false (length word) (total t) l) in
-          rw (judged_tally t, e, size_of e, l, le-leb (length (text t)) (length word) long) (ap Done (sym (word-length t)))
+          rw (judged_tally t, e, size_of e, l, le-leb (length (text t)) (length word) long) (ap Ok (sym (word-length t)))
 
       go : (o : Option Refusal) → table_fault t ≡ o → answered (tally_of t) (length word) ≡ written_answer (write_word_into word t)
       go none e = room e (ltb (length word) (total t)) refl
       go (some r) e = rw (judged_tally t, e)
 
   -- What the word is then
-  written-whole : (n : ℕ) → Done n ≡ written_answer (write_word_into word t)
+  written-whole : (n : ℕ) → Ok n ≡ written_answer (write_word_into word t)
       → starting (text t) word ≡ lent_after word (write_word_into word t)
   unfolding read_table write_word_into rule_19 lent_after
   written-whole n h = go (table_fault t) refl
@@ -68,17 +67,17 @@ module _ (t : List Entry) (word : Bytes) where
       go none e = room e (leb (length (text t)) (length word)) refl
       go (some r) e = never n r (rw e at h)
 
-  module _ (s : Tally) (q : s ≡ tally_of t) (r : Written) (a : r ≡ answered s (length word)) where
-    answer_is : (r' : Written) → r ≡ r' → r' ≡ written_answer (write_word_into word t)
+  module _ (s : Tally) (q : s ≡ tally_of t) (r : Result ℕ Refusal) (a : r ≡ answered s (length word)) where
+    answer_is : (r' : Result ℕ Refusal) → r ≡ r' → r' ≡ written_answer (write_word_into word t)
     answer_is r' e = sym e ∙ a ∙ ap (λ (u : Tally). answered u (length word)) q ∙ answered_tally
 
-    pub wrote : (n : ℕ) → r ≡ Done n → (word' : Bytes) → word' ≡ starting (text t) word → WritesInto t word (Done n) word'
-    wrote n e word' w = (answer_is (Done n) e, w ∙ written-whole n (answer_is (Done n) e))
+    pub wrote : (n : ℕ) → r ≡ Ok n → (word' : Bytes) → word' ≡ starting (text t) word → WritesInto t word (Ok n) word'
+    wrote n e word' w = (answer_is (Ok n) e, w ∙ written-whole n (answer_is (Ok n) e))
 
-    pub left : (f : Refusal) → r ≡ Refused f → WritesInto t word (Refused f) word
+    pub left : (f : Refusal) → r ≡ Err f → WritesInto t word (Err f) word
     unfolding lent_after
-    left f e = (answer_is (Refused f) e, go (write_word_into word t) (answer_is (Refused f) e))
+    left f e = (answer_is (Err f) e, go (write_word_into word t) (answer_is (Err f) e))
       where
-        go : (o : Answer Bytes) → Refused f ≡ written_answer o → word ≡ lent_after word o
+        go : (o : Answer Bytes) → Err f ≡ written_answer o → word ≡ lent_after word o
         go (done u) h = never (length u) f (sym h)
         go (refused g) h = refl

@@ -1,14 +1,11 @@
 -- What is counted of a table, entry by entry, and what is answered by that.
-use Rattle.std.specs.Prelude.{Bool, cond, not, ◌||◌, List, ℕ, suc, ◌+◌, min, length, eqb, ltb}
+use Rattle.theory.specs.declared.Refusal.{Refusal}
+use Rattle.std.specs.Prelude.{Bool, cond, not, ◌||◌, List, ℕ, suc, ◌+◌, min, length, eqb, ltb, Result, Ok, Err}
 use Rattle.theory.specs.Limits
 use Rattle.theory.specs.Word.{Entry}
 use Rattle.theory.specs.Machines.{is_limited}
 use Rattle.theory.specs.TurnedDown.{total}
 use Rattle.text.specs.Runs.{leading}
-use Rattle.word.specs.declared.answers.Read.{Read}
-use Rattle.word.specs.declared.answers.Read.TheVariants.{Done, Refused}
-use Rattle.word.specs.declared.answers.Written.{Written}
-use Rattle.word.specs.declared.answers.Written.TheVariants as W
 use Rattle.tally.specs.declared.Tally.{Tally}
 
 -- An entry that rule 13 turns down, and one that it lets pass
@@ -35,18 +32,18 @@ noted s e = record {
 }
 
 -- Rules 11, 13 and 14, by the tally
-unfoldable pub judged : Tally → Read
+unfoldable pub judged : Tally → Result ℕ Refusal
 judged s =
-    cond (eqb s.count 0) (Refused (record { number = 11; place = 0 }))
-    (cond (ltb Limits.most_symbols s.size) (Refused (record { number = 11; place = 0 }))
-    (cond (ltb s.good s.count) (Refused (record { number = 13; place = s.good }))
-    (cond (ltb Limits.most_instructions s.count) (Refused (record { number = 14; place = Limits.most_instructions }))
-    (Done s.count))))
+    cond (eqb s.count 0) (Err (record { number = 11; place = 0 }))
+    (cond (ltb Limits.most_symbols s.size) (Err (record { number = 11; place = 0 }))
+    (cond (ltb s.good s.count) (Err (record { number = 13; place = s.good }))
+    (cond (ltb Limits.most_instructions s.count) (Err (record { number = 14; place = Limits.most_instructions }))
+    (Ok s.count))))
 
 -- Then 19, for a word of so many bytes
-abbrev pub written_by : Read → (size room : ℕ) → Written
-written_by (Refused r) size room = W.Refused r
-written_by (Done n) size room = cond (ltb room size) (W.Refused (record { number = 19; place = 0 })) (W.Done size)
+abbrev pub written_by : Result ℕ Refusal → (size room : ℕ) → Result ℕ Refusal
+written_by (Err r) size room = Err r
+written_by (Ok n) size room = cond (ltb room size) (Err (record { number = 19; place = 0 })) (Ok size)
 
-unfoldable pub answered : Tally → ℕ → Written
+unfoldable pub answered : Tally → ℕ → Result ℕ Refusal
 answered s room = written_by (judged s) s.size room

@@ -2,15 +2,12 @@
 // wraps, so that a table may be of any length.
 #![tactic(auto)]
 
-ghost use Rattle.std.specs.Prelude.{◌≡◌, ◌+◌, min};
+ghost use Rattle.std.specs.Prelude.{◌≡◌, min};
 ghost use Rattle.theory.specs.Machines.{is_limited};
-ghost use Rattle.tally.specs.Tallies.{is_good, longest, noted, judged, answered};
+ghost use Rattle.tally.specs.Tallies.{is_good, noted, judged, answered};
 
-use theory::Refusal;
-use word::{Instruction, Read, Written, refused};
-
-// The largest count.
-const LONGEST: usize = 18446744073709551615;
+use theory::{Refusal, refused};
+use word::Instruction;
 
 // What is counted of a table's first entries: their symbols, or one more than a word may have; how many are good before the first bad
 // one; how many there are.
@@ -25,20 +22,7 @@ pub struct Tally {
 fn capped(sum: usize) -> usize
     ensures { result ≡ min sum 600001 }
 {
-    if sum <= Instruction::SYMBOLS {
-        return sum;
-    }
-    Instruction::SYMBOLS + 1
-}
-
-// The number after a count, which stays at the largest.
-fn following(count: usize) -> usize
-    ensures { result ≡ min (count + 1) longest }
-{
-    if count < LONGEST {
-        return count + 1;
-    }
-    LONGEST
+    sum.min(Instruction::SYMBOLS + 1)
 }
 
 // A kind that rule 13 lets pass.
@@ -65,8 +49,8 @@ fn is_instruction(kind: u8, operand: u32) -> bool
 pub fn with_entry(t: Tally, kind: u8, operand: u32) -> Tally
     ensures { result ≡ noted t (record { kind = kind; operand = operand }) }
 {
-    let size = capped(capped(t.size) + operand as usize + kind as usize);
-    let count = following(t.count);
+    let size = capped(capped(t.size) + operand as usize + usize::from(kind));
+    let count = t.count.saturating_add(1);
     let good = t.good;
     if good < t.count {
         return Tally { size, good, count };
@@ -82,7 +66,7 @@ pub fn with_entry(t: Tally, kind: u8, operand: u32) -> Tally
 }
 
 // The answer for a table: rules 11, 13 and 14.
-pub fn judge(t: Tally) -> Read
+pub fn judge(t: Tally) -> Result<usize, Refusal>
     ensures { result ≡ judged t }
 {
     let count = t.count;
@@ -99,28 +83,17 @@ pub fn judge(t: Tally) -> Read
     if Instruction::INSTRUCTIONS < count {
         return refused(14, Instruction::INSTRUCTIONS);
     }
-    Read::Done(count)
+    Ok(count)
 }
 
-// The refusal of a rule at a place.
-fn turned_down(number: u32, place: usize) -> Written
-    ensures { result ≡ Written.Refused (record { number = number; place = place }) }
-{
-    Written::Refused(Refusal { number, place })
-}
-
-// What is answered for a table of this tally and a word of so many bytes: rules 11, 13 and 14, then 19.
-pub fn answer_for(t: Tally, room: usize) -> Written
+// What is answered for a table of this tally and a word of so many bytes: its symbols, or rules 11, 13 and 14, then 19.
+pub fn answer_for(t: Tally, room: usize) -> Result<usize, Refusal>
     ensures { result ≡ answered t room }
 {
     let size = t.size;
-    match judge(t) {
-        Read::Done(_) => {
-            if room < size {
-                return turned_down(19, 0);
-            }
-            Written::Done(size)
-        }
-        Read::Refused(r) => Written::Refused(r),
+    judge(t)?;
+    if room < size {
+        return refused(19, 0);
     }
+    Ok(size)
 }

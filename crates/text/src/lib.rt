@@ -16,14 +16,12 @@ pub const BYTES: usize = 16384;
 pub fn find(text: &[u8], at: usize, byte: u8) -> usize
     ensures { result ≡ at + before byte (drop at text.now) }
 {
-    let mut i = at;
-    while i < text.len() {
+    for i in at..text.len() {
         if text[i] == byte {
             return i;
         }
-        i += 1;
     }
-    i
+    text.len().max(at)
 }
 
 // Where the line ends that a place is in: at its LF, or at the text's end.
@@ -47,31 +45,19 @@ pub fn is_ended(text: &[u8]) -> bool
 pub fn run_end(text: &[u8], at: usize, byte: u8) -> usize
     ensures { result ≡ at + run byte (drop at text.now) }
 {
-    let mut next = at;
-    while next < text.len() {
+    for next in at..text.len() {
         if text[next] != byte {
             return next;
         }
-        next += 1;
     }
-    next
+    text.len().max(at)
 }
 
 // Whether a word stands at a place.
 pub fn stands(text: &[u8], at: usize, word: &[u8]) -> bool
     ensures { result ≡ is_some (following word.now (drop at text.now)) }
 {
-    let mut i = 0;
-    while i < word.len() {
-        if text.len() - i <= at {
-            return false;
-        }
-        if text[at + i] != word[i] {
-            return false;
-        }
-        i += 1;
-    }
-    true
+    text[at.min(text.len())..].starts_with(word)
 }
 
 // How far two bytes are apart.
@@ -91,12 +77,10 @@ pub fn are_symbols(bytes: &[u8]) -> bool
     ensures { result ≡ all is_symbol bytes.now }
 {
     let mut ok = true;
-    let mut i: usize = 0;
-    while i < bytes.len() {
-        if distance(bytes[i], MIDDLE) != AWAY {
+    for byte in bytes {
+        if distance(*byte, MIDDLE) != AWAY {
             ok = false;
         }
-        i += 1;
     }
     ok
 }

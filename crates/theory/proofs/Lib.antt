@@ -32,3 +32,4 @@ pub mod Together
 pub mod Even
 pub mod Spellings
 pub mod Texts
+pub mod PassedOn

@@ -1,4 +1,5 @@
 -- The answer and the output of a translation, by what its program was read as.
+use Rattle.std.specs.Prelude.{Result, Ok, Err}
 use mathlib.Core.Path.{◌≡◌, refl, sym, ◌∙◌}
 use mathlib.Core.List.{List}
 use Prim.Native.Nat.{ℕ, ◌*◌, ◌≤◌, ◌<◌}
@@ -20,30 +21,27 @@ use Rattle.tidy.specs.declared.Form.{Form}
 use Rattle.tidy.specs.Forms.{text_in}
 use Rattle.list.specs.Answers as P
 use Rattle.list.specs.declared.Program.{Program}
-use Rattle.list.specs.declared.Checked.{Checked}
-use Rattle.list.specs.declared.Checked.TheVariants as C
 use Rattle.list.proofs.Replies.{checked_refused, checked_accepted}
 use Rattle.translation.specs.Answers.{size_in, Answered}
 use Rattle.translation.specs.Sites.{Known}
 use Rattle.instruction.specs.declared.Size.{Size}
-use Rattle.instruction.specs.declared.Translated.TheVariants as T
 use Rattle.list.proofs.Lists.{list_length}
 
 -- It was refused; it has no room; it is written
 module _ (form : Form) (A : Answer (List Command)) where
-  pub answered_refused : (r : Refusal) (out : List ℕ) → A ≡ refused r → Answered form A out out (T.Refused r)
+  pub answered_refused : (r : Refusal) (out : List ℕ) → A ≡ refused r → Answered form A out out (Err r)
   unfolding translate_into lent_after
   answered_refused r out e = record { answers = rw e; writes = rw e }
 
   module _ (p : List Command) (out : List ℕ) (e : A ≡ done p) where
-    pub answered_short : length out < length (text_in form p) → Answered form A out out (T.Refused (record { number = 19; place = 0 }))
+    pub answered_short : length out < length (text_in form p) → Answered form A out out (Err (record { number = 19; place = 0 }))
     unfolding translate_into lent_after rule_19
     answered_short h =
         let t : _ = lt-leb (length (text_in form p)) (length out) h in
         record { answers = rw (e, t); writes = rw (e, t) }
 
     pub answered_done : (out' : List ℕ) (s : Size) → length (text_in form p) ≤ length out → out' ≡ lent_after out (done (text_in form p))
-        → s ≡ size_in form p → Answered form A out out' (T.Done s)
+        → s ≡ size_in form p → Answered form A out out' (Ok s)
     unfolding translate_into rule_19
     answered_done out' s h o z =
         let t : _ = le-leb (length (text_in form p)) (length out) h in
@@ -62,7 +60,7 @@ known list p q e f =
     }
 
 -- A list that is accepted under a setting: it is read so outside it too
-module _ (σ : Setting) (list : List ℕ) {c : Checked} (e : c ≡ P.checked (read_list_under σ list)) {q : Program} (f : c ≡ C.Accepted q) where
+module _ (σ : Setting) (list : List ℕ) {c : Result Program Refusal} (e : c ≡ P.checked (read_list_under σ list)) {q : Program} (f : c ≡ Ok q) where
   abbrev read : (p : List Command) × (read_list_under σ list ≡ done p) × (q ≡ P.program_of p)
   read = checked_accepted (read_list_under σ list) e f
 
@@ -88,7 +86,7 @@ module _ (σ : Setting) (t : Bytes) (lent : List ℕ) (room : 1536 ≤ length le
       go (refused r) e = rw e
       go (done p) e = rw (e, le-leb (length (list_of p)) (length lent) (fits p e))
 
-  pub unread : {c : Checked} {r : Refusal} → c ≡ P.checked (read_program_into σ lent t) → c ≡ C.Refused r → read_text_under σ t ≡ refused r
+  pub unread : {c : Result Program Refusal} {r : Refusal} → c ≡ P.checked (read_program_into σ lent t) → c ≡ Err r → read_text_under σ t ≡ refused r
   unread e f = sym read_as_text ∙ checked_refused (read_program_into σ lent t) e f
 
   -- What was read, and the part of the list that holds it
@@ -116,7 +114,7 @@ module _ (σ : Setting) (t : Bytes) (lent : List ℕ) (room : 1536 ≤ length le
         few = omega (arith, list_length p, short p ok);
       }
 
-  pub taken : {c : Checked} (q : Program) (list : List ℕ) → c ≡ P.checked (read_program_into σ lent t) → c ≡ C.Accepted q
+  pub taken : {c : Result Program Refusal} (q : Program) (list : List ℕ) → c ≡ P.checked (read_program_into σ lent t) → c ≡ Ok q
       → list ≡ lent_after lent (mapped list_of (read_program_into σ lent t)) → Taken q list
   taken q list e f h =
       let k : _ = checked_accepted (read_program_into σ lent t) e f in

@@ -13,9 +13,9 @@ ghost use Rattle.tidy.specs.Forms.{text_in};
 ghost use Rattle.translation.specs.Answers.{size_in, translated, output, Answered};
 ghost use Rattle.translation.specs.Sites.{Known, Noted};
 
-pub use instruction::{Size, Translated};
-use program::{Checked, Program};
-use theory::{Refusal, Setting};
+pub use instruction::Size;
+use program::Program;
+use theory::{Refusal, Setting, refused};
 use tidy::Form;
 
 // The size of a form of the word of an accepted list: F1, the program's block, and what the form adds. The instructions of every body are
@@ -29,7 +29,7 @@ fn word_size(form: Form, list: &[u8], lines: usize, variables: u8, bodies: &mut 
     let added = forms::added_size(form, variables);
     Size {
         symbols: 4 + block.size.symbols + added.symbols,
-        instructions: 1 + block.size.instructions as usize + added.instructions as usize,
+        instructions: 1 + usize::from(block.size.instructions) + usize::from(added.instructions),
     }
 }
 
@@ -51,7 +51,7 @@ fn translate_accepted(
     lines: usize,
     variables: usize,
     out: &mut [u8],
-) -> Translated
+) -> Result<Size, Refusal>
     requires { Known list.now lines variables }
     ensures { Answered form (read_list list.now) out.old out.new result }
 {
@@ -59,38 +59,39 @@ fn translate_accepted(
     let named = variables as u8;
     let size = word_size(form, list, lines, named, &mut bodies);
     if out.len() < size.symbols {
-        return Translated::Refused(Refusal {
-            number: 19,
-            place: 0,
-        });
+        return refused(19, 0);
     }
     put_word(form, list, named, &bodies, &mut *out);
-    Translated::Done(size)
+    Ok(size)
 }
 
 // A list of three numbers a command, translated in a form: rules 3 to 8 under a setting, then 19.
-pub fn translate_list(setting: Setting, form: Form, list: &[u8], out: &mut [u8]) -> Translated
+pub fn translate_list(
+    setting: Setting,
+    form: Form,
+    list: &[u8],
+    out: &mut [u8],
+) -> Result<Size, Refusal>
     ensures value { result ≡ translated form out.old (read_list_under setting list.now) }
     ensures out_after { out.new ≡ output form out.old (read_list_under setting list.now) }
 {
-    match program::check_list(setting, list) {
-        Checked::Refused(r) => Translated::Refused(r),
-        Checked::Accepted(p) => translate_accepted(form, list, p.lines, p.variables, &mut *out),
-    }
+    let program = program::check_list(setting, list)?;
+    translate_accepted(form, list, program.lines, program.variables, &mut *out)
 }
 
 // A text, translated so: rules 1 to 8 under a setting, then 19.
-pub fn translate_text(setting: Setting, form: Form, text: &[u8], out: &mut [u8]) -> Translated
+pub fn translate_text(
+    setting: Setting,
+    form: Form,
+    text: &[u8],
+    out: &mut [u8],
+) -> Result<Size, Refusal>
     ensures value { result ≡ translated form out.old (read_text_under setting text.now) }
     ensures out_after { out.new ≡ output form out.old (read_text_under setting text.now) }
 {
     let mut list = [0u8; Program::NUMBERS];
-    match program::read(setting, text, &mut list) {
-        Checked::Refused(r) => Translated::Refused(r),
-        Checked::Accepted(p) => {
-            let lines = p.lines;
-            let end = 3 * lines;
-            translate_accepted(form, &list[..end], lines, p.variables, &mut *out)
-        }
-    }
+    let program = program::read(setting, text, &mut list)?;
+    let lines = program.lines;
+    let end = 3 * lines;
+    translate_accepted(form, &list[..end], lines, program.variables, &mut *out)
 }

@@ -8,7 +8,7 @@ use crate::lines;
 use lengths::Length;
 
 // What was counted, and the line after it, from 0.
-#[derive(Drop)]
+#[derive(Clone, Copy)]
 pub struct Extent {
     pub size: Length,
     pub next: usize,

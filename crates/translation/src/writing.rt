@@ -7,7 +7,7 @@ use crate::lines;
 use program::Program;
 
 // The line after what was written, and the place in the output after it.
-#[derive(Drop)]
+#[derive(Clone, Copy)]
 pub struct Spot {
     pub next: usize,
     pub place: usize,

@@ -8,6 +8,7 @@ use native.Mathlib.Omega.{arith}
 use borrow.Author.Tests.{leb-true, ltb-true, ltb-false, not-false}
 use lib.Dec.{ltb, leb}
 use lib.ListN.{length, get_or, get_or-eq_default}
+use Rattle.std.specs.Prelude.{Some, None}
 use Rattle.theory.specs.Word.{Entry}
 use Rattle.theory.specs.Machines.{is_limited}
 use Rattle.theory.specs.TurnedDown.{names_register, first_along, next_entry}
@@ -15,16 +16,15 @@ use Rattle.theory.proofs.Faults.{none_first, none_second, given_none, and_first,
 use Rattle.theory.proofs.Words.{entry}
 use Rattle.word.specs.Answers.{zipped}
 use Rattle.word.proofs.Zipped.{zipped-length, zipped-at}
-use Rattle.usable.specs.declared.Unusable.TheVariants.{At, Nothing}
 use Rattle.usable.specs.Usable.{most_operand, unusable, first_unusable, unusable_answer}
 use Rattle.underway.specs.Inside.{Usable, Usables}
 
 -- What the search answers, as an option again
-pub found : (o : Option ℕ) (i : ℕ) → At i ≡ unusable_answer o → o ≡ some i
+pub found : (o : Option ℕ) (i : ℕ) → Some i ≡ unusable_answer o → o ≡ some i
 found none i e = let z : ◌≡◌ {A = ℕ} 0 1 = cc in absurd (omega arith)
 found (some j) i e = cc
 
-pub found_none : (o : Option ℕ) → Nothing ≡ unusable_answer o → o ≡ none
+pub found_none : (o : Option ℕ) → None ≡ unusable_answer o → o ≡ none
 found_none none e = refl
 found_none (some j) e = let z : ◌≡◌ {A = ℕ} 0 1 = cc in absurd (omega arith)
 

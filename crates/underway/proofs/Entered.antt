@@ -14,7 +14,7 @@ use Rattle.theory.specs.Word as W
 use Rattle.theory.specs.Word.{ended_at}
 use Rattle.theory.specs.declared.End.TheVariants.{Strayed}
 use Rattle.memory.specs.declared.answers.Run.{Run}
-use Rattle.memory.specs.declared.answers.Ended.TheVariants.{Ran}
+use Rattle.std.specs.Prelude.{Ok}
 use Rattle.underway.specs.declared.Stop.{Stop}
 use Rattle.underway.specs.Places.{bias, placed, most_place, number_of, entry_of}
 use Rattle.underway.specs.Ends.{ran_to}
@@ -59,7 +59,7 @@ pub ran_is : (held_in : (ℕ → List W.Symbol) → Type 0) (o : Outcome W.State
     → steps + o.steps ≤ last_count
     → ran_to steps s ≡ record {
       position = record { place = o.state.place; steps = steps + o.steps };
-      ended = Ran o.end o.steps;
+      ended = Ok (record { end = o.end; steps = o.steps });
     }
 ran_is held_in o steps s h l =
     let near : min s.here most_place ≡ s.here = omega (arith, h.near) in

@@ -1,10 +1,9 @@
 -- How long a run goes on, how it has ended then, and what it hands back.
-use Rattle.std.specs.Prelude.{◌≡◌, Bool, cond, ◌&&◌, ◌⊎◌, ℕ, ◌+◌, ◌≤◌, min, eqb, ltb, leb}
+use Rattle.std.specs.Prelude.{◌≡◌, Bool, cond, ◌&&◌, ◌⊎◌, ℕ, ◌+◌, ◌≤◌, min, eqb, ltb, leb, Ok}
 use Rattle.theory.specs.Limits.{last_count}
 use Rattle.theory.specs.declared.End.{End}
 use Rattle.theory.specs.declared.End.TheVariants.{Halted, Strayed, Spent}
 use Rattle.memory.specs.declared.answers.Run.{Run}
-use Rattle.memory.specs.declared.answers.Ended.TheVariants.{Ran}
 use Rattle.underway.specs.declared.Stop.{Stop}
 use Rattle.underway.specs.Places.{bias, placed, most_place}
 
@@ -30,5 +29,5 @@ total steps more = min (steps + more) last_count
 abbrev pub ran_to : ℕ → Stop → Run
 ran_to steps s = record {
   position = record { place = placed (min s.here most_place); steps = total steps s.steps };
-  ended = Ran s.end s.steps;
+  ended = Ok (record { end = s.end; steps = s.steps });
 }

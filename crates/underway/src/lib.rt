@@ -7,8 +7,8 @@ ghost use Rattle.memory.specs.Calls.{stands_outside};
 ghost use Rattle.underway.specs.Places.{number_of, entry_of, placed, most_place};
 ghost use Rattle.underway.specs.Ends.{Allowance, goes_on, end_at, total, ran_to};
 
-use memory::{Ended, Position, Run};
-use theory::End;
+use memory::{Position, Run};
+use theory::{End, Ended};
 
 // Inside a run a place is kept as a number so much higher, so that it never falls below 0.
 pub const BIAS: usize = 1000000;
@@ -16,7 +16,7 @@ pub const BIAS: usize = 1000000;
 const MOST: usize = 2147483647;
 
 // Where a run inside stopped, how, and after how many steps.
-#[derive(Drop)]
+#[derive(Clone, Copy)]
 pub struct Stop {
     pub end: End,
     pub steps: u32,
@@ -57,18 +57,11 @@ fn below(n: usize) -> i32
     -(n as i32)
 }
 
-// The number of a place, no more than the largest that there is.
-fn nearest(here: usize) -> usize
-    ensures { result ≡ min here most_place }
-{
-    if here <= MOST { here } else { MOST }
-}
-
 // The place that a run keeps as a number. One that no place can be is taken as the largest.
 fn place_of(here: usize) -> i32
     ensures { result ≡ placed (min here most_place) }
 {
-    let near = nearest(here);
+    let near = here.min(MOST);
     if BIAS <= near {
         ahead(near - BIAS)
     } else {
@@ -120,7 +113,10 @@ pub fn strayed(at: Position) -> Run
 {
     Run {
         position: at,
-        ended: Ended::Ran(End::Strayed, 0),
+        ended: Ok(Ended {
+            end: End::Strayed,
+            steps: 0,
+        }),
     }
 }
 
@@ -145,6 +141,6 @@ pub fn ran(steps: u32, s: Stop) -> Run
     let steps = counted(steps, taken);
     Run {
         position: Position { place, steps },
-        ended: Ended::Ran(end, taken),
+        ended: Ok(Ended { end, steps: taken }),
     }
 }

@@ -1,13 +1,12 @@
 -- Entries of a table that a machine of so many registers can do.
-use Rattle.std.specs.Prelude.{cond, not, ◌&&◌, List, ℕ, ltb}
+use Rattle.std.specs.Prelude as Code
+use Rattle.std.specs.Prelude.{cond, not, ◌&&◌, List, ℕ, ltb, Some, None}
 use Rattle.std.proofs.Math.Option.{Option, none, some}
 use Rattle.theory.specs.Basics.{given}
 use Rattle.theory.specs.Limits.{most_symbols, most_instructions}
 use Rattle.theory.specs.Word.{Entry}
 use Rattle.theory.specs.Machines.{is_limited}
 use Rattle.theory.specs.TurnedDown.{names_register, first_along, next_entry}
-use Rattle.usable.specs.declared.Unusable.{Unusable}
-use Rattle.usable.specs.declared.Unusable.TheVariants.{At, Nothing}
 
 -- The largest operand of an instruction, by its kind: it names a register, or goes no further than the longest word; no instruction has
 -- another kind
@@ -22,6 +21,6 @@ unusable registers n e = given (not (ltb n most_instructions && is_limited (most
 abbrev pub first_unusable : ℕ → List Entry → Option ℕ
 first_unusable registers t = first_along next_entry (unusable registers) 0 t
 
-abbrev pub unusable_answer : Option ℕ → Unusable
-unusable_answer none = Nothing
-unusable_answer (some i) = At i
+abbrev pub unusable_answer : Option ℕ → Code.Option ℕ
+unusable_answer none = None
+unusable_answer (some i) = Some i

@@ -1,25 +1,12 @@
 // Which entries of a table of numbers a machine can do: what a run needs of a table, whatever was checked of it before.
 #![tactic(auto)]
 
-ghost use Rattle.std.specs.Prelude.{◌≡◌, min};
+ghost use Rattle.std.specs.Prelude.{◌≡◌};
 ghost use Rattle.theory.specs.Machines.{is_limited};
 ghost use Rattle.word.specs.Answers.{zipped};
 ghost use Rattle.usable.specs.Usable.{most_operand, first_unusable, unusable_answer};
 
 use word::Instruction;
-
-// The first entry that a machine cannot do, if there is one.
-#[derive(Drop)]
-pub enum Unusable {
-    At(usize),
-    Nothing,
-}
-
-fn shorter(a: usize, b: usize) -> usize
-    ensures { result ≡ min a b }
-{
-    if a < b { a } else { b }
-}
 
 // The largest operand that an instruction of a kind may have on a machine of so many registers.
 fn most_operand(registers: usize, kind: u8) -> usize
@@ -42,27 +29,23 @@ fn is_usable(registers: usize, kind: u8, operand: u32) -> bool
     operand as usize <= most_operand(registers, kind)
 }
 
-// The first entry that a machine of so many registers cannot do, or that stands past the most instructions of a word. A number that is
-// missing counts as 0.
-pub fn first_unusable(registers: usize, kinds: &[u8], operands: &[u32]) -> Unusable
+// The first entry that a machine of so many registers cannot do, or that stands past the most instructions of a word, if there is one. A
+// number that is missing counts as 0.
+pub fn first_unusable(registers: usize, kinds: &[u8], operands: &[u32]) -> Option<usize>
     ensures { result ≡ unusable_answer (first_unusable registers (zipped kinds.now operands.now)) }
 {
-    let count = shorter(
-        Instruction::INSTRUCTIONS,
-        shorter(kinds.len(), operands.len()),
-    );
-    let mut i: usize = 0;
-    while i < count {
+    let listed = kinds.len().min(operands.len());
+    let count = listed.min(Instruction::INSTRUCTIONS);
+    for i in 0..count {
         if !is_usable(registers, kinds[i], operands[i]) {
-            return Unusable::At(i);
+            return Some(i);
         }
-        i += 1;
     }
     if count < kinds.len() {
-        return Unusable::At(count);
+        return Some(count);
     }
     if count < operands.len() {
-        return Unusable::At(count);
+        return Some(count);
     }
-    Unusable::Nothing
+    None
 }

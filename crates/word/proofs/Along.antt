@@ -1,4 +1,5 @@
 -- A reader's way along a word, from entry to entry: what it has passed, what is left, and what rules 13 and 14 say where it stops.
+use Rattle.std.specs.Prelude.{Ok, Err}
 use mathlib.Core.Path.{◌≡◌, refl, sym, ap, ap₂, ◌∙◌}
 use mathlib.Core.Logic.{◌⊎◌, inl, inr, ⊎_elim}
 use mathlib.Core.Bool.{Bool, true, false}
@@ -15,7 +16,6 @@ use Rattle.theory.specs.Limits
 use Rattle.theory.specs.Word.{Entry, entries}
 use Rattle.theory.specs.TurnedDown.{word_entries, entry_fault, entry_size, first_along, total, rule_13, rule_14, next_byte}
 use Rattle.theory.proofs.Words.{entry, total-append}
-use Rattle.word.specs.declared.answers.Read.TheVariants.{Done, Refused}
 use Rattle.word.specs.Scan.{kind_number, widest, item, item_at, ones_at, hashes_at, fault_place, scan_answer}
 use Rattle.counting.proofs.Symbols.{Known}
 use Rattle.word.proofs.Items.{entries_at, ones-within, next-within}
@@ -146,7 +146,7 @@ module _ (w : List ℕ) (known : Known w) (at count : ℕ) (a : Along w at count
   item-next g f = along-next w known at count a h (fault_none at (ones_at w at) (hashes_at w at) (λ z. g (omega (arith, z))) f)
 
   pub item_fault : length w ≤ Limits.most_symbols → ((item_at w at).operand ≡ 0) ⊎ ((item_at w at).kind ≡ 0)
-      → Refused (record { number = 13; place = fault_place at (item_at w at) }) ≡ scan_answer w
+      → Err (record { number = 13; place = fault_place at (item_at w at) }) ≡ scan_answer w
   unfolding item_at scan_answer rule_13
   item_fault short g =
       let n : ℕ = ones_at w at in
@@ -168,13 +168,13 @@ along_end w at count a h =
 
 -- Rule 14: the answer, with the start of the first instruction too many
 pub scan_count : (w : List ℕ) (count : ℕ) → count ≡ length (word_entries w) → first_along next_byte entry_fault 0 (word_entries w) ≡ none
-    → count ≤ Limits.most_instructions → Done count ≡ scan_answer w
+    → count ≤ Limits.most_instructions → Ok count ≡ scan_answer w
 unfolding scan_answer rule_13 rule_14
-scan_count w count e f h = rw (f, le-leb (length (word_entries w)) Limits.most_instructions (omega arith)) (ap Done e)
+scan_count w count e f h = rw (f, le-leb (length (word_entries w)) Limits.most_instructions (omega arith)) (ap Ok e)
 
 pub scan_many : (w : List ℕ) (count extra : ℕ) → count ≡ length (word_entries w)
     → first_along next_byte entry_fault 0 (word_entries w) ≡ none
     → Limits.most_instructions < count → extra ≡ total (take Limits.most_instructions (word_entries w))
-    → Refused (record { number = 14; place = extra }) ≡ scan_answer w
+    → Err (record { number = 14; place = extra }) ≡ scan_answer w
 unfolding scan_answer rule_13 rule_14
 scan_many w count extra e f h x = rw (f, lt-leb (length (word_entries w)) Limits.most_instructions (omega arith), x)

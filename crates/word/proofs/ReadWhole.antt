@@ -1,4 +1,5 @@
 -- A word read into two arrays that have room for every word: what comes of it, rule by rule.
+use Rattle.std.specs.Prelude.{Result, Ok, Err}
 use mathlib.Core.Path.{◌≡◌, refl, sym, ap, ◌∙◌}
 use mathlib.Core.Option.{Option, none, some}
 use mathlib.Core.List.{List, [], ◌∷◌}
@@ -16,8 +17,6 @@ use Rattle.theory.specs.TurnedDown.{rule_11, rule_12, rule_13, rule_14, rule_19,
 use Rattle.theory.specs.declared.Refusal.{Refusal}
 use Rattle.theory.proofs.Faults.{and_second, and_first, none_first, none_second, none_refused, unless_none}
 use Rattle.theory.proofs.Words.{GoodTable, formed_of_word, total-length, word_round_trip}
-use Rattle.word.specs.declared.answers.Read.{Read}
-use Rattle.word.specs.declared.answers.Read.TheVariants as R
 use Rattle.word.specs.Answers.{kinds_of, operands_of, zipped, read_answer, Reads}
 use Rattle.word.proofs.Zipped.{zipped_self}
 
@@ -80,22 +79,22 @@ module _ (w : Bytes) (kinds operands : List ℕ) (k : length kinds ≡ 8192) (o 
             le-leb (length (word_entries w)) (length operands) (omega (arith, few, o)),
           )
 
-  module _ {r : Read} {kinds' operands' : List ℕ} (h : Reads w kinds operands r kinds' operands') where
+  module _ {r : Result ℕ Refusal} {kinds' operands' : List ℕ} (h : Reads w kinds operands r kinds' operands') where
     answers : r ≡ read_answer (answer (word_fault w) (word_entries w))
     unfolding read_word
     answers = h.0 ∙ ap read_answer read_is
 
-    pub got_refused : (x : Refusal) → r ≡ R.Refused x → word_fault w ≡ some x
+    pub got_refused : (x : Refusal) → r ≡ Err x → word_fault w ≡ some x
     got_refused x e = go (word_fault w) (sym e ∙ answers)
       where
-        go : (f : Option Refusal) → R.Refused x ≡ read_answer (answer f (word_entries w)) → f ≡ some x
+        go : (f : Option Refusal) → Err x ≡ read_answer (answer f (word_entries w)) → f ≡ some x
         go none z = let y : ◌≡◌ {A = ℕ} 0 1 = cc in absurd (omega arith)
         go (some x') z = cc
 
-    done_then : (n : ℕ) → r ≡ R.Done n → (word_fault w ≡ none) × (n ≡ length (word_entries w))
+    done_then : (n : ℕ) → r ≡ Ok n → (word_fault w ≡ none) × (n ≡ length (word_entries w))
     done_then n e = go (word_fault w) (sym e ∙ answers)
       where
-        go : (f : Option Refusal) → R.Done n ≡ read_answer (answer f (word_entries w)) → (f ≡ none) × (n ≡ length (word_entries w))
+        go : (f : Option Refusal) → Ok n ≡ read_answer (answer f (word_entries w)) → (f ≡ none) × (n ≡ length (word_entries w))
         go none z = (refl, cc)
         go (some x) z = let y : ◌≡◌ {A = ℕ} 0 1 = cc in absurd (omega arith)
 
@@ -116,7 +115,7 @@ module _ (w : Bytes) (kinds operands : List ℕ) (k : length kinds ≡ 8192) (o 
           rw (h.2, into_is)
           (take_at (operands_of (word_entries w)) _ n (length-map (word_entries w) (λ e. e.operand) ∙ sym size_is))
 
-    pub got_done : (n : ℕ) → r ≡ R.Done n → Got w n kinds' operands'
+    pub got_done : (n : ℕ) → r ≡ Ok n → Got w n kinds' operands'
     got_done n e =
         let d = done_then n e in
         record {

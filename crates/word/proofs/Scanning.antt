@@ -1,5 +1,7 @@
 -- What the loop of `scan` keeps: the entries before `at` are `count`, without a fault of rule 13, and where they are more than a word
 -- may have, `extra` is where the first too many starts.
+use Rattle.theory.specs.declared.Refusal.{Refusal}
+use Rattle.std.specs.Prelude.{Result, Err}
 use mathlib.Core.Path.{◌≡◌, ap, ◌∙◌}
 use mathlib.Core.Logic.{◌⊎◌, inl, inr}
 use mathlib.Core.List.{List}
@@ -8,8 +10,6 @@ use native.Mathlib.Omega.{arith}
 use lib.ListN.{length, take}
 use Rattle.theory.specs.TurnedDown.{word_entries, total}
 use Rattle.word.specs.declared.answers.Item.{Item}
-use Rattle.word.specs.declared.answers.Read.{Read}
-use Rattle.word.specs.declared.answers.Read.TheVariants.{Refused}
 use Rattle.word.specs.Scan.{Readable, widest, item_at, ones_at, fault_place, scan_answer}
 use Rattle.word.proofs.Items.{ones-within, next_past}
 use Rattle.word.proofs.Along.{Along, item-next, item_fault}
@@ -27,8 +27,8 @@ operand-within w at e h q =
 
 module _ (w : List ℕ) (good : Readable w) (at count extra : ℕ) (s : Scanning w at count extra) (h : at < length w) (e : Item) (q : e ≡
     item_at w at) where
-  pub faulty : (place : ℕ) (r : Read) → (e.operand ≡ 0) ⊎ (e.kind ≡ 0) → place ≡ fault_place at e
-      → r ≡ Refused (record { number = 13; place = place })
+  pub faulty : (place : ℕ) (r : Result ℕ Refusal) → (e.operand ≡ 0) ⊎ (e.kind ≡ 0) → place ≡ fault_place at e
+      → r ≡ Err (record { number = 13; place = place })
       → r ≡ scan_answer w
   faulty place r f p a = rw (a, p, q) (item_fault w good.known at count s.along h good.short (rw q at f))
 

@@ -1,13 +1,10 @@
 -- What entries on words and tables hand back, by the definitions of crate theory: tables, as two lists of numbers or as a list of records,
 -- and answers.
-use Rattle.std.specs.Prelude.{◌≡◌, List, [], ◌∷◌, map, ℕ, length}
+use Rattle.theory.specs.declared.Refusal.{Refusal}
+use Rattle.std.specs.Prelude.{◌≡◌, List, [], ◌∷◌, map, ℕ, length, Result, Ok, Err}
 use Rattle.theory.specs.Word.{Entry}
 use Rattle.theory.specs.TurnedDown.{Answer, done, refused, mapped, lent_after, read_word_into, write_word_into}
 use Rattle.word.specs.declared.answers.Instruction.{Instruction}
-use Rattle.word.specs.declared.answers.Read.{Read}
-use Rattle.word.specs.declared.answers.Read.TheVariants as R
-use Rattle.word.specs.declared.answers.Written.{Written}
-use Rattle.word.specs.declared.answers.Written.TheVariants as W
 
 -- Tables of numbers
 
@@ -40,21 +37,21 @@ records_of = map record_of
 
 -- Answers: the number of instructions, or of symbols, or the refusal
 
-abbrev pub read_answer : Answer (List Entry) → Read
-read_answer (done t) = R.Done (length t)
-read_answer (refused r) = R.Refused r
+abbrev pub read_answer : Answer (List Entry) → Result ℕ Refusal
+read_answer (done t) = Ok (length t)
+read_answer (refused r) = Err r
 
-abbrev pub written_answer : Answer (List ℕ) → Written
-written_answer (done w) = W.Done (length w)
-written_answer (refused r) = W.Refused r
+abbrev pub written_answer : Answer (List ℕ) → Result ℕ Refusal
+written_answer (done w) = Ok (length w)
+written_answer (refused r) = Err r
 
 -- What is handed back, and the lent lists then
-abbrev pub Reads : (word kinds operands : List ℕ) → Read → (kinds' operands' : List ℕ) → Type 0
+abbrev pub Reads : (word kinds operands : List ℕ) → Result ℕ Refusal → (kinds' operands' : List ℕ) → Type 0
 Reads word kinds operands r kinds' operands' =
     (r ≡ read_answer (read_word_into kinds operands word))
     × (kinds' ≡ lent_after kinds (mapped kinds_of (read_word_into kinds operands word)))
     × (operands' ≡ lent_after operands (mapped operands_of (read_word_into kinds operands word)))
 
 -- A table written as a word into a lent list of bytes: rules 11, 13 and 14 as for tables, then 19
-abbrev pub WritesInto : (table : List Entry) (word : List ℕ) → Written → (word' : List ℕ) → Type 0
+abbrev pub WritesInto : (table : List Entry) (word : List ℕ) → Result ℕ Refusal → (word' : List ℕ) → Type 0
 WritesInto table word r word' = (r ≡ written_answer (write_word_into word table)) × (word' ≡ lent_after word (write_word_into word table))

@@ -1,5 +1,6 @@
 -- What the functions inside this crate hand back: the symbols at the front of a word, and its items.
-use Rattle.std.specs.Prelude.{◌≡◌, cond, List, ℕ, ◌+◌, ◌≤◌, min, length, drop, eqb}
+use Rattle.theory.specs.declared.Refusal.{Refusal}
+use Rattle.std.specs.Prelude.{◌≡◌, cond, List, ℕ, ◌+◌, ◌≤◌, min, length, drop, eqb, Result}
 use Rattle.std.proofs.Math.Option.{none}
 use Rattle.theory.specs.Limits
 use Rattle.theory.specs.Word.{is_symbol}
@@ -7,7 +8,6 @@ use Rattle.theory.specs.Machines.{is_limited}
 use Rattle.theory.specs.TurnedDown.{done, answer, word_entries, entries_fault, word_fault, lent_after}
 use Rattle.text.specs.Runs.{leading, run}
 use Rattle.word.specs.declared.answers.Item.{Item}
-use Rattle.word.specs.declared.answers.Read.{Read}
 use Rattle.word.specs.Answers.{kinds_of, operands_of, read_answer}
 
 abbrev pub symbols : List ℕ → ℕ
@@ -48,7 +48,7 @@ pub record Readable (w : List ℕ) : Type 0 where
   pub short : length w ≤ Limits.most_symbols
 
 -- Rules 13 and 14
-unfoldable pub scan_answer : List ℕ → Read
+unfoldable pub scan_answer : List ℕ → Result ℕ Refusal
 scan_answer w = read_answer (answer (entries_fault (word_entries w)) (word_entries w))
 
 -- A word that no rule turns down, and lent lists that have room for its instructions

@@ -1,8 +1,4 @@
 // The types that this crate's entries take and hand back.
-ghost use Rattle.std.specs.Prelude.{◌≡◌};
-
-use theory::Refusal;
-
 // An instruction: its kind, the number of # (1 to 5), and its operand, the number of 1s before them.
 #[derive(Clone, Copy)]
 pub struct Instruction {
@@ -17,7 +13,8 @@ impl Instruction {
 
     pub const KINDS: u8 = 5;
 
-    // The kinds: a 1 appended, a # appended, forward, backward, and cases on the first symbol of a register.
+    // The kinds: a 1 appended, a # appended, forward, backward, and cases on the first symbol of a register. They are numbers and no enum:
+    // C lends a table as numbers, any of which may stand where a kind is read, and rule 13 turns the others down.
     pub const APPEND_ONE: u8 = 1;
 
     pub const APPEND_HASH: u8 = 2;
@@ -29,32 +26,11 @@ impl Instruction {
     pub const CASES: u8 = 5;
 }
 
-// The number of instructions read, or why the word or the table is turned down.
-#[derive(Clone, Copy)]
-pub enum Read {
-    Done(usize),
-    Refused(Refusal),
-}
-
-// The number of symbols written, or why the table is turned down.
-#[derive(Clone, Copy)]
-pub enum Written {
-    Done(usize),
-    Refused(Refusal),
-}
-
 // An instruction of a word, and where the next one starts. Kind 0 stands for a number of # that is none of 1 to 5, and an operand of more
-// than 32 bits for the largest number of 32 bits.
-#[derive(Drop)]
+// than 32 bits for the largest number of 32 bits: no Option, since of those too it is told where the next one starts.
+#[derive(Clone, Copy)]
 pub struct Item {
     pub kind: u8,
     pub operand: u32,
     pub next: usize,
-}
-
-// The refusal of a rule at a place.
-pub fn refused(number: u32, place: usize) -> Read
-    ensures { result ≡ Read.Refused (record { number = number; place = place }) }
-{
-    Read::Refused(Refusal { number, place })
 }

@@ -4,5 +4,5 @@
 mod answers;
 mod reading;
 
-pub use answers::{Instruction, Item, Read, Written, refused};
+pub use answers::{Instruction, Item};
 pub use reading::{item_at, measure, read};

@@ -6,9 +6,10 @@ ghost use Rattle.word.specs.Answers.{read_answer, Reads};
 ghost use Rattle.word.specs.Scan.{symbols, kind_number, widest, item_at, fault_place};
 ghost use Rattle.word.specs.Scan.{Readable, scan_answer, Fillable, Filled};
 
-use crate::answers::{Instruction, Item, Read, refused};
+use crate::answers::{Instruction, Item};
 use counting::count;
 use text::run_end;
+use theory::{Refusal, refused};
 
 // The largest number of 32 bits.
 const WIDEST: usize = 4294967295;
@@ -17,15 +18,12 @@ const WIDEST: usize = 4294967295;
 fn symbols_end(word: &[u8]) -> usize
     ensures { result ≡ symbols word.now }
 {
-    let mut i: usize = 0;
-    while i < word.len() {
-        let b = word[i];
+    for (i, &b) in word.iter().enumerate() {
         if b != b'1' && b != b'#' {
             return i;
         }
-        i += 1;
     }
-    i
+    word.len()
 }
 
 // The kind that a number of # makes, 1 to 5, and 0 for any other.
@@ -79,7 +77,7 @@ fn fault_place(at: usize, e: Item) -> usize
 }
 
 // Rules 13 and 14, of a word of 1s and #s. `extra` is where the first instruction too many starts.
-fn scan(word: &[u8]) -> Read
+fn scan(word: &[u8]) -> Result<usize, Refusal>
     requires { Readable word.now }
     ensures { result ≡ scan_answer word.now }
 {
@@ -101,14 +99,14 @@ fn scan(word: &[u8]) -> Read
         count += 1;
     }
     if count <= Instruction::INSTRUCTIONS {
-        Read::Done(count)
+        Ok(count)
     } else {
         refused(14, extra)
     }
 }
 
 // Rules 11 to 14, one after the other, of a word that is not too long.
-fn examine(word: &[u8]) -> Read
+fn examine(word: &[u8]) -> Result<usize, Refusal>
     requires { length word.now ≤ most_symbols }
     ensures { result ≡ read_answer (read_word word.now) }
 {
@@ -123,7 +121,7 @@ fn examine(word: &[u8]) -> Read
 }
 
 // Rules 11 to 14. Where a word is not one of instructions alone, or of too many, the rule and the place are found.
-pub fn measure(word: &[u8]) -> Read
+pub fn measure(word: &[u8]) -> Result<usize, Refusal>
     ensures { result ≡ read_answer (read_word word.now) }
 {
     if Instruction::SYMBOLS < word.len() {
@@ -131,7 +129,7 @@ pub fn measure(word: &[u8]) -> Read
     }
     let n = count(word);
     if 0 < n && n <= Instruction::INSTRUCTIONS {
-        return Read::Done(n);
+        return Ok(n);
     }
     examine(word)
 }
@@ -142,31 +140,25 @@ fn fill(word: &[u8], count: usize, kinds: &mut [u8], operands: &mut [u32])
     ensures { Filled word.now kinds.old operands.old kinds.new operands.new }
 {
     let mut at: usize = 0;
-    let mut i: usize = 0;
-    while i < count {
+    for i in 0..count {
         let e = item_at(word, at);
         kinds[i] = e.kind;
         operands[i] = e.operand;
         at = e.next;
-        i += 1;
     }
 }
 
-// Reads a word into lent kinds and operands: rules 11 to 14, then 19.
-pub fn read(word: &[u8], kinds: &mut [u8], operands: &mut [u32]) -> Read
+// Reads a word into lent kinds and operands: rules 11 to 14, then 19. The answer is the number of its instructions.
+pub fn read(word: &[u8], kinds: &mut [u8], operands: &mut [u32]) -> Result<usize, Refusal>
     ensures { Reads word.now kinds.old operands.old result kinds.new operands.new }
 {
-    match measure(word) {
-        Read::Done(count) => {
-            if kinds.len() < count {
-                return refused(19, 0);
-            }
-            if operands.len() < count {
-                return refused(19, 0);
-            }
-            fill(word, count, kinds, operands);
-            Read::Done(count)
-        }
-        Read::Refused(r) => Read::Refused(r),
+    let count = measure(word)?;
+    if kinds.len() < count {
+        return refused(19, 0);
     }
+    if operands.len() < count {
+        return refused(19, 0);
+    }
+    fill(word, count, kinds, operands);
+    Ok(count)
 }

@@ -1,12 +1,8 @@
--- `fill` meets its contract. The loop's invariant: the bytes passed are written.
+-- `fill` meets its contract. The loop's invariant: the places passed hold the byte.
 use mathlib.Core.Path.{◌≡◌}
-use Prim.Native.Nat.{◌-◌, ◌≤◌}
-use lib.ListN.{length, replicate}
-use lib.Seq.{sets}
+use mathlib.Core.List.{◌++◌}
+use lib.ListN.{drop, replicate}
 use Rattle.byte_runs.proofs.fill.Given as goal
 
-abbrev pub invariant-loop-i : goal.invariant-loop-i
-invariant-loop-i l = (l.i ≤ l.n) × (length l.out ≡ length l.initial.out) × (l.out ≡ sets l.initial.out l.at (replicate l.i l.byte))
-
-abbrev pub decreases-loop-i : goal.decreases-loop-i
-decreases-loop-i l = l.n - l.i
+abbrev pub invariant-loop-place : goal.invariant-loop-place
+invariant-loop-place l = l.part ≡ replicate l.place-index l.byte ++ drop l.place-index l.initial.part

@@ -1,4 +1,4 @@
-use mathlib.Core.Path.{refl, ◌∙◌}
+use mathlib.Core.Path.{refl}
 use native.Mathlib.Numerals.{add-one}
 use native.Mathlib.Omega.{arith}
 use Rattle.theory.specs.TurnedDown.{largest}
@@ -6,10 +6,10 @@ use Rattle.capacities.proofs.largest.Goals as goal
 
 pub loop-i-init : goal.loop-i-init
 unfolding largest
-loop-i-init c = (omega arith, refl)
+loop-i-init c = refl
 
 pub loop-i-preserved : goal.loop-i-preserved
 unfolding largest
 loop-i-preserved c =
     let l : _ = c.loop-i in
-    (omega arith, c.larger-most.ensures ∙ rw (c.capacity_at.ensures.0, l.invariant.1, add-one l.i, add-one l.i))
+    rw (add-one l.i, add-one l.i, ← l.invariant) (omega arith)

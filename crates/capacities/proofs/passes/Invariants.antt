@@ -1,12 +1,7 @@
 -- `passes` meets its contract: before each line what is left to test is what the whole list asks.
-use Prim.Native.Nat.{◌-◌}
-use lib.ListN.{length}
 use Rattle.capacities.specs.Room.{roomy}
 use Rattle.capacities.proofs.Along.{SoFar}
 use Rattle.capacities.proofs.passes.Given as goal
 
 abbrev pub invariant-loop-n : goal.invariant-loop-n
 invariant-loop-n l = SoFar (roomy l.most l.capacities) l.variables l.list l.n l.deep
-
-abbrev pub decreases-loop-n : goal.decreases-loop-n
-decreases-loop-n l = length l.list - l.n

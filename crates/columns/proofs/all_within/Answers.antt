@@ -10,7 +10,7 @@ use Rattle.theory.specs.TurnedDown.{within_columns}
 use Rattle.columns.proofs.Places.{take_least}
 use Rattle.columns.proofs.Capacities.{within-from, within_end, within-next, within_fails}
 use Rattle.columns.proofs.all_within.Goals as goal
-use Rattle.columns.proofs.all_within.Goals.{After-capacity_of, Start, else-count-lt-MOST, then-count-lt-MOST}
+use Rattle.columns.proofs.all_within.Goals.{After-capacity_of, Start}
 
 -- The first 32 at most are the first of them all
 counted : (s : Start) → let a = s.args in
@@ -28,13 +28,13 @@ capacity : (c : After-capacity_of) → let a = c.args in
     c.capacity_of.result ≡ capacity_of a.capacities (register (get_or a.variables k 0))
 capacity c =
     let a : _ = c.args in
-    c.capacity_of.ensures ∙ ap (λ i. capacity_of a.capacities (register i)) c.wide-variable.ensures
+    c.capacity_of.ensures ∙ ap (λ i. capacity_of a.capacities (register i)) c.from-variable.ensures
 
 pub loop-k-init : goal.loop-k-init
 loop-k-init c =
     let a : _ = c.args in
     let n : ℕ = min a.count 32 in
-    let last : c.if-count-lt-MOST.k ≡ n = (elim c.if-count-lt-MOST.branch [ then-count-lt-MOST w ↦ omega arith | else-count-lt-MOST w ↦ omega arith ]) in
+    let last : c.min-k.result ≡ n = omega arith in
     (omega arith, rw last (within_end a.capacities n a.variables a.numbers))
 
 pub returns-then-capacity_of-numbers : goal.returns-then-capacity_of-numbers

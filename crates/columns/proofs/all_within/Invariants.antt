@@ -1,4 +1,4 @@
--- `all_within` meets its contract. The loop's invariant: the values of the columns from `k` on are within their capacities. `k` falls.
+-- `all_within` meets its contract. The loop's invariant: the values of the columns from `k` on are within their capacities.
 use mathlib.Core.Path.{◌≡◌}
 use mathlib.Core.Bool.{true}
 use Prim.Native.Nat.{◌≤◌, min}
@@ -8,6 +8,3 @@ use Rattle.columns.proofs.all_within.Given as goal
 abbrev pub invariant-loop-k : goal.invariant-loop-k
 invariant-loop-k l =
     (l.k ≤ min l.count 32) × (within-from l.capacities (min l.count 32) l.variables l.numbers l.k ≡ true)
-
-abbrev pub decreases-loop-k : goal.decreases-loop-k
-decreases-loop-k l = l.k

@@ -1,5 +1,5 @@
 -- `named_columns` meets its contract: what the loop has seen says whether the numbers fit together.
-use mathlib.Core.Path.{◌≡◌, ◌∙◌}
+use mathlib.Core.Path.{◌≡◌}
 use mathlib.Core.List.{List}
 use Prim.Native.Nat.{ℕ, ◌-◌, ◌<◌, ◌≤◌}
 use native.Mathlib.Omega.{arith}
@@ -14,8 +14,8 @@ stands count numbers k h g =
     let within : k - 1 < count = omega arith in
     get_or-take count numbers (k - 1) 0 within
 
-pub returns-then-count-gt-MOST : goal.returns-then-count-gt-MOST
-returns-then-count-gt-MOST c = c.none.ensures ∙ columns_many c.args.count c.args.numbers c.if-count-gt-MOST.true
+pub returns-then-count-gt-COLUMNS : goal.returns-then-count-gt-COLUMNS
+returns-then-count-gt-COLUMNS c = columns_many c.args.count c.args.numbers c.if-count-gt-COLUMNS.true
 
 pub loop-k-init : goal.loop-k-init
 loop-k-init c =
@@ -29,7 +29,7 @@ returns-then-n c =
     let x : ℕ = get_or a.numbers (h.k - 1) 0 in
     let at : _ = stands a.count a.numbers h.k (omega arith) (omega arith) in
     let high : _ = seen_high (take a.count a.numbers) h.k h.seen h.variables h.invariant.1 (omega arith) x at (omega arith) in
-    c.none-then-n.ensures ∙ columns_none a.count a.numbers (omega arith) high
+    columns_none a.count a.numbers (omega arith) high
 
 pub returns-then-seen-i : goal.returns-then-seen-i
 returns-then-seen-i c =
@@ -38,7 +38,7 @@ returns-then-seen-i c =
     let x : ℕ = get_or a.numbers (h.k - 1) 0 in
     let at : _ = stands a.count a.numbers h.k (omega arith) (omega arith) in
     let again : _ = seen_again (take a.count a.numbers) h.k h.seen h.variables h.invariant.1 (omega arith) x at (omega arith) c.if-seen-i.true in
-    c.none-then-seen-i.ensures ∙ columns_none a.count a.numbers (omega arith) again
+    columns_none a.count a.numbers (omega arith) again
 
 pub loop-k-preserved : goal.loop-k-preserved
 loop-k-preserved c =

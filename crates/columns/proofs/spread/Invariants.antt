@@ -1,4 +1,4 @@
--- `spread` meets its contract. The loop's invariant: the values of the columns from `k` on are with their variables. `k` falls.
+-- `spread` meets its contract. The loop's invariant: the values of the columns from `k` on are with their variables.
 use mathlib.Core.Path.{◌≡◌}
 use Prim.Native.Nat.{◌≤◌, min}
 use Rattle.columns.proofs.Starts.{starts_from}
@@ -7,6 +7,3 @@ use Rattle.columns.proofs.spread.Given as goal
 abbrev pub invariant-loop-k : goal.invariant-loop-k
 invariant-loop-k l =
     (l.k ≤ min l.count 32) × (l.values ≡ starts_from (min l.count 32) l.variables l.numbers l.k)
-
-abbrev pub decreases-loop-k : goal.decreases-loop-k
-decreases-loop-k l = l.k

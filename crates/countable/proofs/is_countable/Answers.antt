@@ -14,18 +14,18 @@ returns-then-not-has_counts c =
     sym (no_counts a.capacities.now a.lengths.now a.kinds.now a.operands.now
     (sym c.has_counts.ensures ∙ c.if-not-has_counts.true))
 
-pub returns-in-At : goal.returns-in-At
-returns-in-At c =
+pub returns-in-Some : goal.returns-in-Some
+returns-in-Some c =
     let a = c.args in
     let o = first_unusable (length a.capacities.now) (zipped a.kinds.now a.operands.now) in
     sym (by_search a.capacities.now a.lengths.now a.kinds.now a.operands.now
     (sym c.has_counts.ensures ∙ c.if-not-has_counts.false)
-    ∙ ap is_none (found o _ (sym c.in-At.is ∙ c.first_unusable.ensures)))
+    ∙ ap is_none (found o _ (sym c.in-Some.is ∙ c.first_unusable.ensures)))
 
-pub returns-in-Nothing : goal.returns-in-Nothing
-returns-in-Nothing c =
+pub returns-in-None : goal.returns-in-None
+returns-in-None c =
     let a = c.args in
     let o = first_unusable (length a.capacities.now) (zipped a.kinds.now a.operands.now) in
     sym (by_search a.capacities.now a.lengths.now a.kinds.now a.operands.now
     (sym c.has_counts.ensures ∙ c.if-not-has_counts.false)
-    ∙ ap is_none (found_none o (sym c.in-Nothing.is ∙ c.first_unusable.ensures)))
+    ∙ ap is_none (found_none o (sym c.in-None.is ∙ c.first_unusable.ensures)))

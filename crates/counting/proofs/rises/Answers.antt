@@ -31,8 +31,8 @@ overflow_add-n c =
     record {
       fits = omega (
         arith,
-        few a.word.now l.i (l.i + c.smaller.result) l.n c.rises_of.result (omega (arith, c.smaller.ensures))
-            (omega (arith, c.smaller.ensures)) c.rises_of.ensures l.invariant.1,
+        few a.word.now l.i (l.i + c.min.result) l.n c.from-n.result (omega (arith, c.min.ensures))
+            (omega (arith, c.min.ensures)) (c.from-n.ensures ∙ c.rises_of.ensures) l.invariant.1,
       );
     }
 
@@ -41,8 +41,8 @@ loop-i-preserved c =
     let l = c.loop-i in
     let a = c.args in (
       omega arith,
-      more a.word.now l.i (l.i + c.smaller.result) l.n c.rises_of.result (omega (arith, c.smaller.ensures))
-          (omega (arith, c.smaller.ensures)) c.rises_of.ensures l.invariant.1,
+      more a.word.now l.i (l.i + c.min.result) l.n c.from-n.result (omega (arith, c.min.ensures))
+          (omega (arith, c.min.ensures)) (c.from-n.ensures ∙ c.rises_of.ensures) l.invariant.1,
     )
 
 pub returns : goal.returns

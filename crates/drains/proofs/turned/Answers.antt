@@ -30,7 +30,7 @@ bounds-lengths-a c =
 pub overflow_sub-held : goal.overflow_sub-held
 overflow_sub-held c =
     let some : 1 ≤ c.turns_of-m.result = omega (arith, c.if-m-eq0.false) in
-    omega (arith, c.wide-held.ensures, held_enough _ _ _ _ _ _ _ c.turns_of-m.ensures some _ c.index-a.ensures)
+    omega (arith, c.from-held.ensures, held_enough _ _ _ _ _ _ _ c.turns_of-m.ensures some _ c.index-a.ensures)
 
 pub bounds-lengths-a-2 : goal.bounds-lengths-a-2
 bounds-lengths-a-2 c =
@@ -43,7 +43,7 @@ pour-requires c =
     let i = c.index-a in
     let a = c.args in
     let less : c.narrow.result ≡ get_or a.lengths.now i.result 0 - c.turns_of-m.result =
-    omega (arith, c.narrow.ensures, c.wide-held.ensures) in
+    omega (arith, c.narrow.ensures, c.from-held.ensures) in
     pour_fits _ _ _ _ _ _ _ c.turns_of-m.ensures some _ i.ensures _ less
     (λ j. omega (arith, c.slice_known-1.given j))
     (λ j. omega (arith, c.shared_slice_known-1.given j))
@@ -66,7 +66,7 @@ returns c =
     let i = c.index-a in
     let a = c.args in
     let less : c.narrow.result ≡ get_or a.lengths.now i.result 0 - c.turns_of-m.result =
-    omega (arith, c.narrow.ensures, c.wide-held.ensures) in (
+    omega (arith, c.narrow.ensures, c.from-held.ensures) in (
       ap (λ m. m * a.n) c.turns_of-m.ensures,
       poured_is _ _ _ _ _ _ _ c.turns_of-m.ensures some _ i.ensures _ less c.pour.new.lengths
           c.pour.ensures,

@@ -1,15 +1,12 @@
 -- `with_room` meets its contract: what the registers passed have room for, cut further by the rest, is what all have room for.
 use mathlib.Core.Path.{◌≡◌}
-use Prim.Native.Nat.{◌≤◌, ◌<◌, ◌-◌}
+use Prim.Native.Nat.{◌<◌}
 use lib.ListN.{length, drop}
 use Rattle.drains.specs.Drains.{with_room}
 use Rattle.drains.proofs.with_room.Given as goal
 
-abbrev pub invariant-loop-j : goal.invariant-loop-j
-invariant-loop-j l =
-    (l.j ≤ length l.appends) × (l.m < 65536)
+abbrev pub invariant-loop-register : goal.invariant-loop-register
+invariant-loop-register l =
+    (l.m < 65536)
     × (with_room l.lengths l.capacities l.from (length l.appends) l.appends l.most
-    ≡ with_room l.lengths l.capacities l.from (length l.appends) (drop l.j l.appends) l.m)
-
-abbrev pub decreases-loop-j : goal.decreases-loop-j
-decreases-loop-j l = length l.appends - l.j
+    ≡ with_room l.lengths l.capacities l.from (length l.appends) (drop l.register-index l.appends) l.m)

@@ -5,19 +5,19 @@ use Rattle.memory.specs.Calls.{memory}
 use Rattle.engine.proofs.Judged.{got_refused, got_done, table_refused, table-run}
 use Rattle.engine.proofs.run_numbers.Goals as goal
 
-pub returns-in-Done : goal.returns-in-Done
-returns-in-Done c =
+pub returns-in-Ok : goal.returns-in-Ok
+returns-in-Ok c =
     let a = c.args in
     let m = memory a.capacities.now a.store.now a.lengths.now in
     let t = zipped a.kinds.now a.operands.now in
-    let passed = (got_done t _ c.check.ensures _ c.in-Done.is).0 in
+    let passed = (got_done t _ c.check.ensures _ c.in-Ok.is).0 in
     c.run.ensures ∙ table-run m a.at a.budget t passed
 
-pub returns-in-Refused : goal.returns-in-Refused
-returns-in-Refused c =
+pub returns-in-Err : goal.returns-in-Err
+returns-in-Err c =
     let a = c.args in
     let m = memory a.capacities.now a.store.now a.lengths.now in
     let t = zipped a.kinds.now a.operands.now in
     rw c.turned_down.ensures
     (sym (table_refused m a.at a.budget t _ (got_refused t _ c.check.ensures
-    _ c.in-Refused.is)))
+    _ c.in-Err.is)))

@@ -30,4 +30,4 @@ returns c =
     c.run_numbers-ran.ensures
     ∙ ap (λ (z : ℤ). table_called m (stands_at z args.steps.now) args.budget table) from in
     runs_on m at (read_table_for (count m) table) args.budget ran _ _ _ _
-    (called ∙ table_is m at args.budget table) c.word_ended.ensures back
+    (called ∙ table_is m at args.budget table) c.run_ended.ensures back

@@ -26,4 +26,4 @@ returns c =
     c.run_word-run.ensures
     ∙ ap (λ (z : ℤ). word_called m (stands_at z args.steps.now) args.budget args.word.now) from in
     runs_on m at (read_word_for (count m) args.word.now) args.budget ran _ _ _ _
-    (called ∙ word_is m at args.budget args.word.now) c.word_ended.ensures back
+    (called ∙ word_is m at args.budget args.word.now) c.run_ended.ensures back

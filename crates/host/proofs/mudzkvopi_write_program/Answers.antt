@@ -1,10 +1,11 @@
 -- `mudzkvopi_write_program` meets its contract, since `program::write` meets its own.
-use mathlib.Core.Path.{ap, ◌∙◌}
-use Rattle.program_packing.specs.Answered.{program_written}
-use Rattle.program_packing.proofs.Packs.{packs_program_written}
+use mathlib.Core.Path.{refl, ap, ◌∙◌}
+use Rattle.program.specs.Answers.{written}
+use Rattle.packing.specs.Packed.{counted}
+use Rattle.packing.proofs.Packs.{packs_counted}
 use Rattle.host.proofs.mudzkvopi_write_program.Goals as goal
 
 pub returns : goal.returns
 returns c =
     let write = rw c.setting.ensures at c.write.ensures in
-    record { result = c.program_written.ensures ∙ ap program_written write.value ∙ packs_program_written _; text_after = write.text_after }
+    record { result = c.counted.ensures ∙ ap counted write.value ∙ packs_counted written (λ l. refl) (λ r. refl) _; text_after = write.text_after }

@@ -1,12 +1,9 @@
 -- `list::check_list` meets its contract: before each command the faults that are left are those of the whole list.
-use Prim.Native.Nat.{◌≤◌, ◌-◌}
+use Prim.Native.Nat.{◌≤◌}
 use lib.ListN.{length}
 use Rattle.list.proofs.ListCheck.{SoFar}
 use Rattle.list.proofs.check_list.Given as goal
 
-abbrev pub invariant-loop-lines : goal.invariant-loop-lines
-invariant-loop-lines l =
-    (length l.list ≤ 1536) × SoFar l.setting l.list l.lines l.variables l.count l.openings
-
-abbrev pub decreases-loop-lines : goal.decreases-loop-lines
-decreases-loop-lines l = length l.list - l.lines
+abbrev pub invariant-loop-i : goal.invariant-loop-i
+invariant-loop-i l =
+    (length l.list ≤ 1536) × SoFar l.setting l.list l.i l.variables l.count l.openings

@@ -10,7 +10,7 @@ use Rattle.listing_check.proofs.check.Goals as goal
 pub returns-then-lines-gt-LINES : goal.returns-then-lines-gt-LINES
 returns-then-lines-gt-LINES c =
     let a = c.args in
-    c.fault.ensures
+    c.refused.ensures
     ∙ too_many a.list.now (length a.list.now / 4) (record { from = omega arith; upto = omega arith }) c.if-lines-gt-LINES.true
 
 pub returns : goal.returns

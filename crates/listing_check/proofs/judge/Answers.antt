@@ -13,19 +13,19 @@ returns-then-kind-eq-PRINT_HASH c = let a = c.args in print_passes_2 a.n a.lines
 pub returns-then-kind-ne-SCAN : goal.returns-then-kind-ne-SCAN
 returns-then-kind-ne-SCAN c =
     let a = c.args in
-    c.fault.ensures ∙ no_line a.n a.lines a.line c.if-kind-eq-PRINT_ONE.false c.if-kind-eq-PRINT_HASH.false c.if-kind-ne-SCAN.true
+    c.refused.ensures ∙ no_line a.n a.lines a.line c.if-kind-eq-PRINT_ONE.false c.if-kind-eq-PRINT_HASH.false c.if-kind-ne-SCAN.true
 
 pub returns-then-not-is_target : goal.returns-then-not-is_target
 returns-then-not-is_target c =
     let a = c.args in
-    c.fault-then-not-is_target.ensures
+    c.refused-then-not-is_target.ensures
     ∙ scan_judged a.n a.lines a.line c.if-kind-eq-PRINT_ONE.false c.if-kind-eq-PRINT_HASH.false c.if-kind-ne-SCAN.false false _
     (sym c.is_target.ensures ∙ c.if-not-is_target.true) refl
 
 pub returns-then-not-is_target-2 : goal.returns-then-not-is_target-2
 returns-then-not-is_target-2 c =
     let a = c.args in
-    c.fault-then-not-is_target-2.ensures
+    c.refused-then-not-is_target-2.ensures
     ∙ scan_judged a.n a.lines a.line c.if-kind-eq-PRINT_ONE.false c.if-kind-eq-PRINT_HASH.false c.if-kind-ne-SCAN.false true false
     (sym c.is_target.ensures ∙ c.if-not-is_target.false)
     (sym c.is_target-2.ensures ∙ c.if-not-is_target-2.true)

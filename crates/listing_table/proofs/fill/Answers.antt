@@ -8,5 +8,5 @@ use Rattle.listing_table.proofs.fill.Goals as goal
 pub fill_passed-requires : goal.fill_passed-requires
 fill_passed-requires c =
     let a = c.args in
-    fill_passes a.list.now c.check.ensures c.in-Passes.is (length a.list.now / 4)
+    fill_passes a.list.now c.check.ensures c.in_ok-check.was (length a.list.now / 4)
     (record { from = omega arith; upto = omega arith })

@@ -3,6 +3,7 @@ use mathlib.Core.Path.{refl}
 use mathlib.Core.List.{List}
 use Prim.Native.Nat.{ℕ}
 use lib.ListN.{replicate}
+use Rattle.theory.proofs.PassedOn.{passed_on}
 use Rattle.listing_table.specs.Tables.{most_entries}
 use Rattle.listings.proofs.Answering.{list_refused, list_room, list_answered}
 use Rattle.listings.proofs.translate_list.Goals as goal
@@ -15,15 +16,15 @@ pub write_table-requires : goal.write_table-requires
 write_table-requires c =
     let a = c.args in
     list_room a.word.now a.list.now fresh fresh c.fill.ensures
-    c.in-Done.is refl refl
+    c.in_ok-count.was refl refl
 
-pub returns-in-Refused : goal.returns-in-Refused
-returns-in-Refused c =
+pub returns-in_err-count : goal.returns-in_err-count
+returns-in_err-count c =
     let a = c.args in
-    list_refused a.word.now a.list.now fresh fresh c.fill.ensures c.in-Refused.is
+    rw (passed_on _ c.from_residual.ensures) (list_refused a.word.now a.list.now fresh fresh c.fill.ensures c.in_err-count.was)
 
-pub returns-in-Done : goal.returns-in-Done
-returns-in-Done c =
+pub returns : goal.returns
+returns c =
     let a = c.args in
     list_answered a.word.now a.list.now fresh fresh c.fill.ensures
-    c.in-Done.is refl refl c.write_table.ensures
+    c.in_ok-count.was refl refl c.write_table.ensures

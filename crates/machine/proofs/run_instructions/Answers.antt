@@ -1,9 +1,11 @@
 -- `run_instructions` meets its contract: the run of the table, and its refusal as that of the word.
+use Rattle.std.specs.Prelude.{Result}
+use Rattle.theory.specs.declared.Refusal.{Refusal}
 use mathlib.Core.Path.{ap, ◌∙◌}
 use native.Mathlib.Omega.{arith}
 use Rattle.theory.proofs.Words.{table_good}
 use Rattle.word.specs.Answers.{zipped}
-use Rattle.memory.specs.declared.answers.Ended.{Ended}
+use Rattle.theory.specs.declared.Ended.{Ended}
 use Rattle.memory.specs.Calls.{memory, handed, moved_to}
 use Rattle.engine.proofs.Rule15.{zipped-length}
 use Rattle.engine.proofs.Accepted.{accepted_paired}
@@ -24,17 +26,17 @@ by_byte-requires c =
       );
     }
 
-pub returns-in-Ran : goal.returns-in-Ran
-returns-in-Ran c =
+pub returns-in-Ok : goal.returns-in-Ok
+returns-in-Ok c =
     let a = c.args in
     let z = c.run_numbers-run.new in
-    ap (λ (e : Ended). handed (moved_to c.run_numbers-run.result.position e) z.store z.lengths) c.in-Ran.is
+    ap (λ (e : Result Ended Refusal). handed (moved_to c.run_numbers-run.result.position e) z.store z.lengths) c.in-Ok.is
     ∙ ran_by_table (memory a.capacities.now a.store.now a.lengths.now) a.at a.budget (zipped a.kinds.now a.operands.now)
-    c.requires _ _ _ c.run_numbers-run.ensures _ c.in-Ran.is
+    c.requires _ _ _ c.run_numbers-run.ensures _ c.in-Ok.is
 
-pub returns-in-Refused : goal.returns-in-Refused
-returns-in-Refused c =
+pub returns-in-Err : goal.returns-in-Err
+returns-in-Err c =
     let a = c.args in
     rw c.by_byte.ensures
     (ran_by_table (memory a.capacities.now a.store.now a.lengths.now) a.at a.budget (zipped a.kinds.now a.operands.now)
-    c.requires _ _ _ c.run_numbers-run.ensures _ c.in-Refused.is)
+    c.requires _ _ _ c.run_numbers-run.ensures _ c.in-Err.is)

@@ -14,12 +14,6 @@ loop-i-preserved c =
     let p = c.requires in
     let more = total-more a.kinds.now a.operands.now p.0 l.i (search rules) in (
       search rules,
-      rw (add-one, more) (ap (λ (k : ℕ). k + (get_or a.operands.now l.i 0 + get_or a.kinds.now l.i 0)) l.invariant.1),
-      omega (
-        arith,
-        l.invariant.2,
-        c.shared_slice_known-1.given c.loop-i.i,
-        c.shared_slice_known-in-loop-i-1.given
-            c.loop-i.i,
-      ),
+      rw (add-one, more, c.from.ensures) (ap (λ (k : ℕ). k + (get_or a.operands.now l.i 0 + get_or a.kinds.now l.i 0)) l.invariant.1),
+      omega (arith, l.invariant.2, c.from.ensures, c.type_inv.operands l.i, c.type_inv.kinds l.i),
     )

@@ -4,7 +4,7 @@ use Rattle.memory.proofs.RegisterOne.{first-length, value_refused, value_read, v
 use Rattle.memory.proofs.value.Goals as goal
 
 pub returns-then-not-is_memory : goal.returns-then-not-is_memory
-returns-then-not-is_memory c = value_refused _ (sym c.is_memory.ensures ∙ c.if-not-is_memory.true)
+returns-then-not-is_memory c = rw c.refused.ensures (value_refused _ (sym c.is_memory.ensures ∙ c.if-not-is_memory.true))
 
 pub bounds-lengths-0 : goal.bounds-lengths-0
 bounds-lengths-0 c =

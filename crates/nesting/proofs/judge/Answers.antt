@@ -6,29 +6,29 @@ use Rattle.nesting.proofs.judge.Goals as goal
 
 pub returns-then-not-is_command : goal.returns-then-not-is_command
 returns-then-not-is_command c = let a = c.args in
-    c.fault.ensures ∙ fault_4 a.setting a.line a.count a.last a.kind a.index a.source
+    c.refused.ensures ∙ fault_4 a.setting a.line a.count a.last a.kind a.index a.source
     (sym c.is_command.ensures ∙ c.if-not-is_command.true)
 
-pub returns-then-higher-gt-INDEX : goal.returns-then-higher-gt-INDEX
-returns-then-higher-gt-INDEX c =
+pub returns-then-max-gt-INDEX : goal.returns-then-max-gt-INDEX
+returns-then-max-gt-INDEX c =
     let a = c.args in
     let h = sym c.is_command.ensures ∙ c.if-not-is_command.false in
-    c.fault-then-higher-gt-INDEX.ensures ∙ fault_5 a.setting a.line a.count a.last a.kind a.index a.source h
-    (omega (arith, c.higher.ensures, c.if-higher-gt-INDEX.true))
+    c.refused-then-max-gt-INDEX.ensures ∙ fault_5 a.setting a.line a.count a.last a.kind a.index a.source h
+    (omega (arith, c.max.ensures, c.if-max-gt-INDEX.true))
 
 pub returns-then-is_banned : goal.returns-then-is_banned
 returns-then-is_banned c =
     let a = c.args in
     let h = sym c.is_command.ensures ∙ c.if-not-is_command.false in
-    c.fault-then-is_banned.ensures ∙ fault_20 a.setting a.line a.count a.last a.kind a.index a.source h
-    (omega (arith, c.higher.ensures, c.if-higher-gt-INDEX.false)) (sym c.is_banned.ensures ∙ c.if-is_banned.true)
+    c.refused-then-is_banned.ensures ∙ fault_20 a.setting a.line a.count a.last a.kind a.index a.source h
+    (omega (arith, c.max.ensures, c.if-max-gt-INDEX.false)) (sym c.is_banned.ensures ∙ c.if-is_banned.true)
 
 pub returns-in-4 : goal.returns-in-4
 returns-in-4 c =
     let a = c.args in
     let h = sym c.is_command.ensures ∙ c.if-not-is_command.false in
     c.opened.ensures ∙ of_opening a.setting a.line a.count a.last a.kind a.index a.source h
-    (omega (arith, c.higher.ensures, c.if-higher-gt-INDEX.false))
+    (omega (arith, c.max.ensures, c.if-max-gt-INDEX.false))
     (sym c.is_banned.ensures ∙ c.if-is_banned.false) c.in-4.is
 
 pub returns-in-5 : goal.returns-in-5
@@ -36,7 +36,7 @@ returns-in-5 c =
     let a = c.args in
     let h = sym c.is_command.ensures ∙ c.if-not-is_command.false in
     c.closed.ensures ∙ of_closing a.setting a.line a.count a.last a.kind a.index a.source h
-    (omega (arith, c.higher.ensures, c.if-higher-gt-INDEX.false))
+    (omega (arith, c.max.ensures, c.if-max-gt-INDEX.false))
     (sym c.is_banned.ensures ∙ c.if-is_banned.false) c.in-5.is
 
 pub returns-in_default : goal.returns-in_default
@@ -44,5 +44,5 @@ returns-in_default c =
     let a = c.args in
     let h = sym c.is_command.ensures ∙ c.if-not-is_command.false in
     of_plain a.setting a.line a.count a.last a.kind a.index a.source h
-    (omega (arith, c.higher.ensures, c.if-higher-gt-INDEX.false)) (sym c.is_banned.ensures ∙ c.if-is_banned.false)
+    (omega (arith, c.max.ensures, c.if-max-gt-INDEX.false)) (sym c.is_banned.ensures ∙ c.if-is_banned.false)
     c.in_default.in_default-own.rest.0.1 c.in_default.in_default-own.rest.1

@@ -14,4 +14,4 @@ loop-end-preserved c =
     rw c.grown-value.ensures (digits_more c.loop-end.invariant _ c.loop-end-test.true refl (omega arith) (omega arith))
 
 pub returns : goal.returns
-returns c = digits_end c.loop-end.invariant c.loop-end-test.false
+returns c = digits_end c.loop-end.invariant c.max.ensures c.loop-end.auto.end-end c.loop-end-test.false

@@ -3,10 +3,6 @@ use native.Mathlib.Omega.{arith}
 use Rattle.numerals.proofs.Numbers.{primes_found}
 use Rattle.numerals.proofs.primes.Goals as goal
 
-pub returns-then-count-most : goal.returns-then-count-most
-returns-then-count-most c = let a = c.args in
-    rw c.run_end-end.ensures (primes_found a.text.now a.at a.most (omega arith) (omega arith))
-
-pub returns-else-count-most : goal.returns-else-count-most
-returns-else-count-most c = let a = c.args in
+pub returns : goal.returns
+returns c = let a = c.args in
     rw c.run_end-end.ensures (primes_found a.text.now a.at a.most (omega arith) (omega arith))

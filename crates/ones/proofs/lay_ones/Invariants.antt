@@ -1,14 +1,9 @@
--- `lay_ones` meets its contract: the first `i` places are laid anew.
-use mathlib.Core.Path.{◌≡◌}
-use Prim.Native.Nat.{◌-◌}
+-- `lay_ones` meets its contract: the places passed are laid anew, and what the iterator has left says what becomes of the others.
 use Rattle.layout.proofs.Walks.{Walked}
-use Rattle.ones.proofs.Laid.{places, from_place}
+use Rattle.ones.specs.Ones.{relaid}
 use Rattle.ones.proofs.lay_ones.Given as goal
 
-abbrev pub invariant-loop-i : goal.invariant-loop-i
-invariant-loop-i l =
-    (l.count ≡ places l.capacities l.before l.after)
-    × Walked (places l.capacities l.before l.after) (from_place l.capacities l.before l.after) l.initial.store l.store l.from l.i
-
-abbrev pub decreases-loop-i : goal.decreases-loop-i
-decreases-loop-i l = l.count - l.i
+abbrev pub invariant-loop-capacity : goal.invariant-loop-capacity
+invariant-loop-capacity l =
+    let i = l.capacity-iterator in
+    Walked (relaid l.capacities l.before l.after) (relaid i.a.rest.now i.b.a.rest.now i.b.b.rest.now) l.initial.store l.store l.from

@@ -6,4 +6,4 @@ use Rattle.output.proofs.copy.Goals as goal
 pub loop-i-preserved : goal.loop-i-preserved
 loop-i-preserved c =
     let m = c.loop-i in
-    (omega arith, simp length-set m.invariant.1, sets_more _ _ _ _ _ (omega arith) m.invariant.2)
+    (simp length-set m.invariant.0, sets_more _ _ _ _ _ (omega arith) m.invariant.1)

@@ -5,4 +5,4 @@ use Rattle.output.proofs.put_bytes.Goals as goal
 
 pub returns : goal.returns
 returns c =
-    put-placed {k = c.left-room.result} c.copy-2.ensures (omega arith) (omega arith) c.onward.ensures
+    put-placed {k = c.saturating_sub-room.result} c.copy-2.ensures (omega arith) (omega arith) c.onward.ensures

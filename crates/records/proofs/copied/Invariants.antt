@@ -1,11 +1,8 @@
 -- What stays true while records are copied: the arrays hold the numbers of those before the place, and 0s after them.
-use Rattle.std.proofs.Common.{◌≡◌, ◌-◌, ◌≤◌}
+use Rattle.std.proofs.Common.{◌≡◌}
 use Rattle.records.proofs.Copies.{copied_at, kind_in, operand_in}
 use Rattle.records.proofs.copied.Given as goal
 
 abbrev pub invariant-loop-i : goal.invariant-loop-i
 invariant-loop-i l =
-    (l.i ≤ l.count) × ((l.kinds ≡ copied_at kind_in l.table l.i) × (l.operands ≡ copied_at operand_in l.table l.i))
-
-abbrev pub decreases-loop-i : goal.decreases-loop-i
-decreases-loop-i l = l.count - l.i
+    (l.kinds ≡ copied_at kind_in l.table l.i) × (l.operands ≡ copied_at operand_in l.table l.i)

@@ -1,4 +1,5 @@
 -- `report_on` meets its contract: the text is put only where it is known to fit.
+use mathlib.Core.Path.{◌∙◌}
 use Prim.Native.Nat.{◌≤◌}
 use native.Mathlib.Omega.{arith}
 use lib.ListN.{length}
@@ -11,7 +12,7 @@ pub returns-then-out-put_report : goal.returns-then-out-put_report
 returns-then-out-put_report c =
     let long = c.put_report.ensures in
     let down = report_refused c.args.out.now c.args.capacities.now c.args.text.now c.args.sheet.now (omega (arith, long.put.next, long.few)) in
-    record { value = down.0; out_after = down.1 }
+    record { value = c.refused.ensures ∙ down.0; out_after = down.1 }
 
 pub returns : goal.returns
 returns c =

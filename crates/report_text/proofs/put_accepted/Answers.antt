@@ -10,14 +10,14 @@ put_roomy-requires c =
     let list = a.list.now in (
       c.requires,
       roomy_accepted a.capacities.now list (commands list) c.requires.accepted _ c.check.ensures _
-          c.in-Accepted.is,
+          c.in-Ok.is,
     )
 
-pub returns-in-Refused : goal.returns-in-Refused
-returns-in-Refused c =
+pub returns-in-Err : goal.returns-in-Err
+returns-in-Err c =
     let a = c.args in
     let list = a.list.now in
     let capacities = a.capacities.now in
-    let r = c.in-Refused.r in
-    let short = short_refused capacities list (commands list) c.requires.accepted _ c.check.ensures r c.in-Refused.is in
+    let r = c.in-Err.r in
+    let short = short_refused capacities list (commands list) c.requires.accepted _ c.check.ensures r c.in-Err.is in
     refusal-printed r (room_refused capacities (commands list) a.sheet.now r short) c.put_refusal.ensures

@@ -16,16 +16,16 @@ use Rattle.report_text.proofs.Translating.{InBuffer, word_too_long, word_in_buff
 use Rattle.report_text.proofs.Reading.{few_named}
 use Rattle.report_text.proofs.Printing.{roomy-set, word_refused, all-printed, refusal-printed}
 use Rattle.report_text.proofs.put_translated.Goals as goal
-use Rattle.report_text.proofs.put_translated.Goals.{In-Done}
+use Rattle.report_text.proofs.put_translated.Goals.{In-Ok}
 
 -- The word that is in the buffer
-held : (c : In-Done) →
-    InBuffer (commands c.args.list.now) c.translate_list.new.out c.in-Done.size.symbols
+held : (c : In-Ok) →
+    InBuffer (commands c.args.list.now) c.translate_list.new.out c.in-Ok.size.symbols
 held c =
     let list = c.args.list.now in
-    let done_then = sym c.in-Done.is ∙ c.translate_list.ensures.value in
+    let done_then = sym c.in-Ok.is ∙ c.translate_list.ensures.value in
     word_in_buffer (replicate 65536 0) (length-replicate {A = ℕ} 65536 0) (commands list) (read_list list) c.requires.0.accepted
-    c.in-Done.size c.translate_list.new.out done_then c.translate_list.ensures.out_after
+    c.in-Ok.size c.translate_list.new.out done_then c.translate_list.ensures.out_after
 
 -- The sheet is accepted for the program of the list
 accepted : (capacities : List ℕ) (list s : Bytes) (names : Names) (K : ℕ) → Listed list K → Given capacities s names K
@@ -35,24 +35,24 @@ accepted capacities list s names K listed given =
 
 pub slice_bounds-word-end : goal.slice_bounds-word-end
 slice_bounds-word-end c =
-    let h = held (goal.at.slice_bounds-word-end c).In-Done in
+    let h = held (goal.at.slice_bounds-word-end c).In-Ok in
     let size : length c.translate_list.new.out ≡ 65536 = c.translate_list.auto.out in
     omega (arith, h.fits, h.counted)
 
 pub slice_bounds-put_word_rows-end : goal.slice_bounds-put_word_rows-end
 slice_bounds-put_word_rows-end c =
-    let h = held (goal.at.slice_bounds-put_word_rows-end c).In-Done in
+    let h = held (goal.at.slice_bounds-put_word_rows-end c).In-Ok in
     h.counted ∙ ap length (sym h.front)
 
 pub put_word_rows-requires : goal.put_word_rows-requires
 put_word_rows-requires c =
-    (record { listed = c.requires.0; translated = (held (goal.at.put_word_rows-requires c).In-Done).front }, roomy-set _ _ c.requires.1, c.requires.2)
+    (record { listed = c.requires.0; translated = (held (goal.at.put_word_rows-requires c).In-Ok).front }, roomy-set _ _ c.requires.1, c.requires.2)
 
-pub returns-in-Refused : goal.returns-in-Refused
-returns-in-Refused c =
+pub returns-in-Err : goal.returns-in-Err
+returns-in-Err c =
     let list = c.args.list.now in
     let s = c.args.sheet.now in
-    let refused = sym c.in-Refused.is ∙ c.translate_list.ensures.value in
+    let refused = sym c.in-Err.is ∙ c.translate_list.ensures.value in
     let buffer = length-replicate {A = ℕ} 65536 0 in
     let (long, is-19) = word_too_long (replicate 65536 0) buffer (commands list) (read_list list) c.requires.0.accepted _ refused in
     let capacities = c.args.capacities.now in
@@ -61,11 +61,11 @@ returns-in-Refused c =
     refusal-printed _ (word_refused capacities (commands list) s few c.requires.1 fault long ∙ ap refusal_line (sym is-19))
     c.put_refusal.ensures
 
-pub returns-in-Done : goal.returns-in-Done
-returns-in-Done c =
+pub returns-in-Ok : goal.returns-in-Ok
+returns-in-Ok c =
     let list = c.args.list.now in
     let s = c.args.sheet.now in
     let capacities = c.args.capacities.now in
     let fault = accepted capacities list s c.args.names _ c.requires.0 c.requires.2 in
     let few = few_named list _ c.requires.0 in
-    rw (all-printed capacities (commands list) s few c.requires.1 fault (held (goal.at.returns-in-Done c).In-Done).fits) c.put_word_rows.ensures
+    rw (all-printed capacities (commands list) s few c.requires.1 fault (held (goal.at.returns-in-Ok c).In-Ok).fits) c.put_word_rows.ensures

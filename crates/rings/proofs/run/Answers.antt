@@ -12,17 +12,17 @@ use Rattle.rings.proofs.Running.{memory-sized}
 use Rattle.underway.proofs.AllUsable.{found, found_none, all_usable}
 use Rattle.rings.proofs.Answered.{no_memory, refused_15, all_done}
 use Rattle.rings.proofs.run.Goals as goal
-use Rattle.rings.proofs.run.Goals.{Else-not-is_memory, In-Nothing}
+use Rattle.rings.proofs.run.Goals.{Else-not-is_memory, In-None}
 
 good : (c : Else-not-is_memory) → let a = c.args in is_memory (memory a.capacities.now
     a.store.now a.lengths.now) ≡ true
 good c = sym c.is_memory.ensures ∙ c.if-not-is_memory.false
 
 -- the machine can do every entry
-nothing : (c : In-Nothing)
+nothing : (c : In-None)
     → let a = c.args in
     first_unusable (length a.capacities.now) (zipped a.kinds.now a.operands.now) ≡ none
-nothing c = found_none _ (sym c.in-Nothing.is ∙ c.first_unusable.ensures)
+nothing c = found_none _ (sym c.in-None.is ∙ c.first_unusable.ensures)
 
 pub returns-then-not-is_memory : goal.returns-then-not-is_memory
 returns-then-not-is_memory c =
@@ -39,22 +39,22 @@ run_usable-requires c =
     let a = c.args in
     let fine = good (goal.at.run_usable-requires c).Else-not-is_memory in
     let few = (memory-sized a.capacities.now a.store.now a.lengths.now fine).registers in
-    (fine, all_usable (length a.capacities.now) a.kinds.now a.operands.now (nothing (goal.at.run_usable-requires c).In-Nothing) (omega (arith, few)))
+    (fine, all_usable (length a.capacities.now) a.kinds.now a.operands.now (nothing (goal.at.run_usable-requires c).In-None) (omega (arith, few)))
 
-pub returns-in-At : goal.returns-in-At
-returns-in-At c =
+pub returns-in-Some : goal.returns-in-Some
+returns-in-Some c =
     let a = c.args in
     let m = memory a.capacities.now a.store.now a.lengths.now in
     rw (
-      c.turned_down-in-At.ensures,
-      refused_15 m a.at a.budget (zipped a.kinds.now a.operands.now) (good (goal.at.returns-in-At c).Else-not-is_memory)
-          c.in-At.i
-          (found _ c.in-At.i (sym c.in-At.is ∙ c.first_unusable.ensures)),
+      c.turned_down-in-Some.ensures,
+      refused_15 m a.at a.budget (zipped a.kinds.now a.operands.now) (good (goal.at.returns-in-Some c).Else-not-is_memory)
+          c.in-Some.i
+          (found _ c.in-Some.i (sym c.in-Some.is ∙ c.first_unusable.ensures)),
     )
 
-pub returns-in-Nothing : goal.returns-in-Nothing
-returns-in-Nothing c =
+pub returns-in-None : goal.returns-in-None
+returns-in-None c =
     let a = c.args in
     let m = memory a.capacities.now a.store.now a.lengths.now in
     c.run_usable.ensures
-    ∙ sym (all_done m a.at a.budget (zipped a.kinds.now a.operands.now) (good (goal.at.returns-in-Nothing c).Else-not-is_memory) (nothing (goal.at.returns-in-Nothing c).In-Nothing))
+    ∙ sym (all_done m a.at a.budget (zipped a.kinds.now a.operands.now) (good (goal.at.returns-in-None c).Else-not-is_memory) (nothing (goal.at.returns-in-None c).In-None))

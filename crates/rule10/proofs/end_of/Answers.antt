@@ -5,10 +5,11 @@ use Rattle.theory.proofs.Offsets.{offset-next}
 use borrow.Author.Rules.{rules}
 use Rattle.rule10.proofs.end_of.Goals as goal
 
-pub loop-i-preserved : goal.loop-i-preserved
-loop-i-preserved c =
-    let l = c.loop-i in (
+pub loop-capacity-preserved : goal.loop-capacity-preserved
+loop-capacity-preserved c =
+    let l = c.loop-capacity in
+    let i = l.capacity-index in (
       search rules,
-      rw (add-one l.i) (omega (arith, offset-next c.args.capacities.now l.i, l.invariant.1, c.capacity_at-end.ensures.0)),
-      rw (add-one l.i) (omega (arith, suc-mul l.i 65535, l.invariant.2, c.capacity_at-end.ensures.1)),
+      rw (add-one i) (omega (arith, offset-next c.args.capacities.now i)),
+      rw (add-one i) (omega (arith, suc-mul i 65535)),
     )

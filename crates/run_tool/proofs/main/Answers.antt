@@ -18,10 +18,10 @@ within n out same short = omega arith
 
 pub slice_bounds-out-end : goal.slice_bounds-out-end
 slice_bounds-out-end c =
-    within _ _ c.report.auto.out (done_fits lent tool_capacities _ _ c.in-Done.n (sym c.in-Done.is ∙ c.report.ensures.value))
+    within _ _ c.report.auto.out (done_fits lent tool_capacities _ _ c.in-Ok.n (sym c.in-Ok.is ∙ c.report.ensures.value))
 
 pub slice_bounds-write_all-end : goal.slice_bounds-write_all-end
 slice_bounds-write_all-end c =
     sym
     (length-take-le _ _
-    (within _ _ c.report.auto.out (done_fits lent tool_capacities _ _ c.in-Done.n (sym c.in-Done.is ∙ c.report.ensures.value))))
+    (within _ _ c.report.auto.out (done_fits lent tool_capacities _ _ c.in-Ok.n (sym c.in-Ok.is ∙ c.report.ensures.value))))

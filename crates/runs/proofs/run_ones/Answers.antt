@@ -4,9 +4,9 @@ use Prim.Native.Nat.{◌≤◌}
 use native.Mathlib.Omega.{arith}
 use lib.ListN.{length}
 use Rattle.ones.proofs.Laws.{ones-memory}
+use Rattle.rounds.proofs.Aside.{aside_take}
 use Rattle.rings.proofs.Running.{memory-sized}
 use Rattle.runs.proofs.Chosen.{ran-ones}
-use Rattle.runs.proofs.Copying.{copied_take}
 use Rattle.runs.proofs.run_ones.Goals as goal
 use Rattle.runs.proofs.run_ones.Goals.{Start}
 
@@ -25,7 +25,7 @@ slice_bounds-before-end c = omega (
 
 pub slice_bounds-lay_ones-end : goal.slice_bounds-lay_ones-end
 slice_bounds-lay_ones-end c =
-    sym (ap length (copied_take c.args.lengths.now _ c.copied-before.ensures
+    sym (ap length (aside_take c.args.lengths.now _ c.laid_aside-before.ensures
     (few (goal.at.slice_bounds-lay_ones-end c).Start)))
 
 pub returns : goal.returns
@@ -33,7 +33,7 @@ returns c =
     let a = c.args in
     rw (
       c.lay_ones.ensures,
-      copied_take a.lengths.now _ c.copied-before.ensures (few (goal.at.returns c).Start),
+      aside_take a.lengths.now _ c.laid_aside-before.ensures (few (goal.at.returns c).Start),
     )
     (ran-ones a.capacities.now a.store.now a.lengths.now a.kinds.now a.operands.now a.at a.budget c.requires _ _
     c.run-counted.ensures)

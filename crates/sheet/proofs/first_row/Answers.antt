@@ -16,4 +16,4 @@ overflow_add-find c =
 pub returns : goal.returns
 returns c =
     let s : _ = c.args.sheet.now in
-    rw (line-length s 0) (c.least.ensures ∙ ap (λ i. min (i + 1) (length s)) c.find.ensures)
+    rw (line-length s 0) (c.min.ensures ∙ ap (λ i. min (i + 1) (length s)) c.find.ensures)

@@ -57,13 +57,13 @@ pub overflow_add-steps : goal.overflow_add-steps
 overflow_add-steps c =
     let s = c.args.state in
     let counted : s.steps ≤ 4294967295 = search rules in
-    let ran = rw c.least-allowed.ensures at c.walk-stop.ensures in
+    let ran = rw c.min-allowed.ensures at c.walk-stop.ensures in
     omega (arith, taken_few c.args.list.now s c.args.budget c.walk-stop.result c.walk-stop.new.values c.walk-stop.new.passes ran)
 
 pub returns : goal.returns
 returns c =
     let s = c.args.state in
     let counted : s.steps ≤ 4294967295 = search rules in
-    let ran = rw c.least-allowed.ensures at c.walk-stop.ensures in
+    let ran = rw c.min-allowed.ensures at c.walk-stop.ensures in
     run-back c.args.list.now s c.args.budget c.walk-stop.result c.walk-stop.new.values c.walk-stop.new.passes ran counted
     (sym c.is_source.ensures ∙ c.if-not-is_source.false) (search rules) (search rules)

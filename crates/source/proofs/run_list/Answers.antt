@@ -6,13 +6,13 @@ use Rattle.source.proofs.Reading.{accepted_as, refused_as, list_program, read-gi
 use Rattle.source.proofs.run_list.Goals as goal
 
 pub run_accepted-requires : goal.run_accepted-requires
-run_accepted-requires c = read-given c.args.setting c.args.list.now _ (accepted_as _ _ (sym c.in-Accepted.ensures))
+run_accepted-requires c = read-given c.args.setting c.args.list.now _ (accepted_as _ _ (sym c.in-Ok.ensures))
 
-pub returns-in-Accepted : goal.returns-in-Accepted
-returns-in-Accepted c =
-    let a : _ = accepted_as (read_list_under c.args.setting c.args.list.now) _ (sym c.in-Accepted.ensures) in
+pub returns-in-Ok : goal.returns-in-Ok
+returns-in-Ok c =
+    let a : _ = accepted_as (read_list_under c.args.setting c.args.list.now) _ (sym c.in-Ok.ensures) in
     rw (a.is_done, ← list_program _ _ _ a) c.run_accepted.ensures
 
-pub returns-in-Refused : goal.returns-in-Refused
-returns-in-Refused c =
-    rw (c.refused.ensures, refused_as (read_list_under c.args.setting c.args.list.now) _ (sym c.in-Refused.ensures)) (refused_back _ _)
+pub returns-in-Err : goal.returns-in-Err
+returns-in-Err c =
+    rw (c.refused.ensures, refused_as (read_list_under c.args.setting c.args.list.now) _ (sym c.in-Err.ensures)) (refused_back _ _)

@@ -18,9 +18,9 @@ returns c =
     let n = c.args.numbers.now in
     let s = c.args.state in
     let size : length n ≡ 82 = c.if-numbers-ne-NUMBERS.false in
-    let long : length c.copy.new.to ≡ 32 = search rules in
-    let deep : length c.copy-2.new.to ≡ 32 = search rules in
-    let few : length c.copy-3.new.to ≡ 16 = search rules in
+    let long : length c.copy_from_slice.new.self ≡ 32 = search rules in
+    let deep : length c.copy_from_slice-2.new.self ≡ 32 = search rules in
+    let few : length c.copy_from_slice-3.new.self ≡ 16 = search rules in
     rw (eq-eqb (length n) 82 size)
-    (all-written n size c.copy.new.to long c.copy-2.new.to deep c.copy-3.new.to few s.line s.steps
-    ∙ laid_same s.line s.steps c.copy.ensures c.copy-2.ensures c.copy-3.ensures)
+    (all-written n size c.copy_from_slice.new.self long c.copy_from_slice-2.new.self deep c.copy_from_slice-3.new.self few s.line s.steps
+    ∙ laid_same s.line s.steps c.copy_from_slice.ensures.after c.copy_from_slice-2.ensures.after c.copy_from_slice-3.ensures.after)

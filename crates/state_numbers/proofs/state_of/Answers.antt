@@ -11,4 +11,4 @@ returns-then-numbers-ne-NUMBERS c = rw (ne_eqb (length c.args.numbers.now) 82 c.
 pub returns : goal.returns
 unfolding lent_state state_of
 returns c =
-    rw (eq-eqb (length c.args.numbers.now) 82 c.if-numbers-ne-NUMBERS.false, c.copy.ensures, c.copy-2.ensures, c.copy-3.ensures)
+    rw (eq-eqb (length c.args.numbers.now) 82 c.if-numbers-ne-NUMBERS.false, c.copy_from_slice.ensures.after, c.copy_from_slice-2.ensures.after, c.copy_from_slice-3.ensures.after)

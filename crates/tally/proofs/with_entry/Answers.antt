@@ -30,17 +30,17 @@ module _ (s : Tally) (e : Entry) {held size count : ℕ} (before : held ≡ min 
 pub returns-then-good-t : goal.returns-then-good-t
 returns-then-good-t c =
     let a = c.args in
-    past_bad a.t (entry a.operand a.kind) c.capped.ensures c.capped-size.ensures c.following-count.ensures
+    past_bad a.t (entry a.operand a.kind) c.capped.ensures (rw c.from.ensures at c.capped-size.ensures) c.saturating_add-count.ensures
     c.if-good-t.true
 
 pub returns-then-is_instruction : goal.returns-then-is_instruction
 returns-then-is_instruction c =
     let a = c.args in
-    still_good a.t (entry a.operand a.kind) c.capped.ensures c.capped-size.ensures c.following-count.ensures
+    still_good a.t (entry a.operand a.kind) c.capped.ensures (rw c.from.ensures at c.capped-size.ensures) c.saturating_add-count.ensures
     c.if-good-t.false (sym c.is_instruction.ensures ∙ c.if-is_instruction.true)
 
 pub returns : goal.returns
 returns c =
     let a = c.args in
-    first_bad a.t (entry a.operand a.kind) c.capped.ensures c.capped-size.ensures c.following-count.ensures
+    first_bad a.t (entry a.operand a.kind) c.capped.ensures (rw c.from.ensures at c.capped-size.ensures) c.saturating_add-count.ensures
     c.if-good-t.false (sym c.is_instruction.ensures ∙ c.if-is_instruction.false)

@@ -18,5 +18,6 @@ loop-i-preserved c =
 
 pub returns : goal.returns
 returns c =
+    let text : _ = c.args.text.now in
     let byte : _ = c.args.byte in
-    omega (arith, leading_end (is_other byte) c.args.text.now c.loop-i.i 0 (omega arith))
+    grind (arith, leading_end (is_other byte) text c.loop-i.i 0, leading_end (is_other byte) text c.args.at 0)

@@ -18,5 +18,6 @@ loop-next-preserved c =
 
 pub returns : goal.returns
 returns c =
+    let text : _ = c.args.text.now in
     let byte : _ = c.args.byte in
-    omega (arith, leading_end (is_byte byte) c.args.text.now c.loop-next.next 0 (omega arith))
+    grind (arith, leading_end (is_byte byte) text c.loop-next.next 0, leading_end (is_byte byte) text c.args.at 0)

@@ -14,7 +14,7 @@ word_size-size-requires c = (c.requires, (small _ _ _ c.requires).few_lines)
 pub returns-then-out-size : goal.returns-then-out-size
 returns-then-out-size c =
     let s = ap (λ z. z.symbols) c.word_size-size.ensures.0 in
-    answered_short _ _ _ _ c.requires.accepts.read (omega (arith, s, c.if-out-size.true))
+    rw c.refused.ensures (answered_short _ _ _ _ c.requires.accepts.read (omega (arith, s, c.if-out-size.true)))
 
 pub put_word-requires : goal.put_word-requires
 put_word-requires c =

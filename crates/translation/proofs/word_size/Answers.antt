@@ -25,6 +25,6 @@ pub returns : goal.returns
 returns c =
     let k = c.requires in
     let e = c.block_size-block.ensures in (
-      size_is _ _ _ k.0 c.args.form _ e.0 _ c.added_size-added.ensures,
+      rw (c.from.ensures, c.from-2.ensures) (size_is _ _ _ k.0 c.args.form _ e.0 _ c.added_size-added.ensures),
       noting_whole _ _ _ _ _ _ (e.0.ended ∙ whole-lines _ _ _ k.0) k.1 e.1,
     )

@@ -25,9 +25,9 @@ pub returns-then-count-kinds : goal.returns-then-count-kinds
 returns-then-count-kinds c =
     let a = c.args in
     let l = c.loop-i in
-    let at : l.i ≡ c.shorter-count.result = omega (arith, l.invariant.0, c.loop-i-test.false) in
+    let at : l.i ≡ c.min-count.result = omega (arith, l.invariant.0, c.loop-i-test.false) in
     rw (← at) (ap unusable_answer (sym (l.invariant.1 ∙ stops_operands a.registers a.kinds.now a.operands.now l.i
-    (omega (arith, c.shorter-count.ensures, c.shorter.ensures)) (omega (
+    (omega (arith, c.min-count.ensures, c.min-listed.ensures)) (omega (
       arith,
       c.if-count-kinds.true,
     )))))
@@ -36,9 +36,9 @@ pub returns-then-count-operands : goal.returns-then-count-operands
 returns-then-count-operands c =
     let a = c.args in
     let l = c.loop-i in
-    let at : l.i ≡ c.shorter-count.result = omega (arith, l.invariant.0, c.loop-i-test.false) in
+    let at : l.i ≡ c.min-count.result = omega (arith, l.invariant.0, c.loop-i-test.false) in
     rw (← at) (ap unusable_answer (sym (l.invariant.1 ∙ stops_kinds a.registers a.kinds.now a.operands.now l.i
-    (omega (arith, c.shorter-count.ensures, c.shorter.ensures))
+    (omega (arith, c.min-count.ensures, c.min-listed.ensures))
     (omega (arith, c.if-count-operands.true)) (omega (arith, c.if-count-kinds.false)))))
 
 pub returns : goal.returns

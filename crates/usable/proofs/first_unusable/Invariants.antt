@@ -1,6 +1,6 @@
 -- `first_unusable` meets its contract: what the entries from `i` on answer is the answer.
 use mathlib.Core.Path.{◌≡◌}
-use Prim.Native.Nat.{◌-◌, ◌≤◌}
+use Prim.Native.Nat.{◌≤◌}
 use lib.ListN.{drop}
 use Rattle.theory.specs.TurnedDown.{first_along, next_entry}
 use Rattle.word.specs.Answers.{zipped}
@@ -11,6 +11,3 @@ abbrev pub invariant-loop-i : goal.invariant-loop-i
 invariant-loop-i l =
     (l.i ≤ l.count)
     × (first_unusable l.registers (zipped l.kinds l.operands) ≡ first_along next_entry (unusable l.registers) l.i (drop l.i (zipped l.kinds l.operands)))
-
-abbrev pub decreases-loop-i : goal.decreases-loop-i
-decreases-loop-i l = l.count - l.i

@@ -1,10 +1,8 @@
 -- `command::numbers_of` meets its contract: an assignment, or else a line of a pair.
-use Rattle.command.proofs.LineNumbers.{numbers_assigned, numbers_paired}
+use mathlib.Core.Path.{◌∙◌}
+use Rattle.std.proofs.Common.{rules}
+use Rattle.command.proofs.LineNumbers.{numbers-whole}
 use Rattle.command.proofs.reading.numbers_of.Goals as goal
 
-pub returns-then-a-ne0 : goal.returns-then-a-ne0
-returns-then-a-ne0 c = numbers_assigned c.args.s.now c.assignment-a.ensures c.if-a-ne0.true
-
 pub returns : goal.returns
-returns c =
-    numbers_paired c.args.s.now c.assignment-a.ensures c.if-a-ne0.false c.pair.ensures
+returns c = c.unwrap_or.ensures ∙ numbers-whole c.args.s.now c.assignment.ensures (λ h. search rules) c.or_else.ensures

@@ -7,25 +7,26 @@ use Rattle.command.proofs.reading.pair_line.Goals as goal
 pub returns-then-ends : goal.returns-then-ends
 returns-then-ends c =
     let a = c.args in
-    let front = sym c.stands.ensures ∙ c.if-stands.true in
-    c.numbers.ensures
-    ∙ pair-back a.kind a.front.now a.back.now a.s.now front
-    (name_there a.s.now (length a.front.now) c.name.ensures c.in-To.is)
-    (sym c.ends.ensures ∙ c.if-ends.true)
+    let front = sym c.stands.ensures ∙ c.if-not-stands.false in
+    rw c.numbers.ensures
+    (pair-back a.kind a.front.now a.back.now a.s.now front
+    (name_there a.s.now (length a.front.now) c.name.ensures c.in_ok-variable.was)
+    (sym c.ends.ensures ∙ c.if-ends.true))
 
 pub returns-else-ends : goal.returns-else-ends
 returns-else-ends c =
     let a = c.args in
-    pair_no_back a.kind a.front.now a.back.now a.s.now (sym c.stands.ensures ∙ c.if-stands.true)
-    (name_there a.s.now (length a.front.now) c.name.ensures c.in-To.is)
+    pair_no_back a.kind a.front.now a.back.now a.s.now (sym c.stands.ensures ∙ c.if-not-stands.false)
+    (name_there a.s.now (length a.front.now) c.name.ensures c.in_ok-variable.was)
     (sym c.ends.ensures ∙ c.if-ends.false)
 
-pub returns-in-No : goal.returns-in-No
-returns-in-No c =
+pub returns-in_err-variable : goal.returns-in_err-variable
+returns-in_err-variable c =
     let a = c.args in
-    pair_no_name a.kind a.front.now a.back.now a.s.now (sym c.stands.ensures ∙ c.if-stands.true)
-    c.name.ensures c.in-No.is
+    c.from_residual.ensures
+    ∙ pair_no_name a.kind a.front.now a.back.now a.s.now (sym c.stands.ensures ∙ c.if-not-stands.false)
+    c.name.ensures c.in_err-variable.was
 
-pub returns-else-stands : goal.returns-else-stands
-returns-else-stands c = let a = c.args in
-    pair_no_front a.kind a.front.now a.back.now a.s.now (sym c.stands.ensures ∙ c.if-stands.false)
+pub returns-then-not-stands : goal.returns-then-not-stands
+returns-then-not-stands c = let a = c.args in
+    pair_no_front a.kind a.front.now a.back.now a.s.now (sym c.stands.ensures ∙ c.if-not-stands.true)

@@ -25,8 +25,8 @@ returns-then-is_back c =
     let a = c.args in
     let after = c.stretch.new.lengths in
     let back = sym c.is_back.ensures ∙ c.if-is_back.true in
-    all_round a.capacities.now a.lengths.now after a.kinds.now a.operands.now a.from a.left _ _ _
-    c.in-To.ensures
-    (ap (λ (l : List ℕ). eqb c.in-To.there a.from && same after l)
+    all_round a.capacities.now a.lengths.now after a.kinds.now a.operands.now a.from a.left _ _
+    c.in_ok-s.ensures
+    (ap (λ (l : List ℕ). eqb c.in_ok-s.s.there a.from && same after l)
     (sym (aside (goal.at.returns-then-is_back c).After-laid_aside-cells)) ∙ back)
     c.whole_rounds.ensures

@@ -8,14 +8,14 @@ loop-left-preserved c =
     let a = c.args in
     let w = c.allowance-allowed in
     counting_reached a.capacities.now a.lengths.now a.kinds.now a.operands.now a.from a.steps a.budget w.result
-    c.loop-left.invariant w.ensures _ _ c.in-To.ensures
+    c.loop-left.invariant w.ensures _ c.in-Ok.ensures
 
-pub returns-in-Full : goal.returns-in-Full
-returns-in-Full c =
+pub returns-in-Err : goal.returns-in-Err
+returns-in-Err c =
     let a = c.args in
     let w = c.allowance-allowed in
     counting_reached_full a.capacities.now a.lengths.now a.kinds.now a.operands.now a.from a.steps a.budget w.result
-    c.loop-left.invariant w.ensures _ _ c.in-Full.ensures
+    c.loop-left.invariant w.ensures _ c.in-Err.ensures
 
 pub returns : goal.returns
 returns c =

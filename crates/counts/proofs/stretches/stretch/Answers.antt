@@ -4,8 +4,9 @@ use mathlib.Core.List.{List}
 use Prim.Native.Nat.{ℕ, ◌+◌, ◌-◌, ◌≤◌, ◌<◌}
 use native.Mathlib.Omega.{arith}
 use lib.ListN.{length}
+use Rattle.std.specs.Prelude.{Some}
 use Rattle.underway.proofs.Running.{at_instruction}
-use Rattle.counts.specs.declared.steps.Stride.TheVariants.{To}
+use Rattle.counts.specs.declared.steps.Stride.{Stride}
 use Rattle.counts.specs.Strides.{Strode}
 use Rattle.counts.proofs.Stretching.{Stretching, stretching_start, stretching_to, stretching_goes}
 use Rattle.counts.proofs.stretches.stretch.Goals as goal
@@ -19,15 +20,15 @@ going : (c : In-loop-lengths)
 going c = at_instruction _ _ _ _ (sym c.goes_on.ensures ∙ c.loop-lengths-test.true)
 
 -- the stretch with one stride more
-longer : (c : In-loop-lengths) (there n : ℕ) (after : List ℕ)
+longer : (c : In-loop-lengths) (m : Stride) (after : List ℕ)
     → let a = c.args in
     let l = c.loop-lengths in
-    Strode a.capacities.now l.lengths a.kinds.now a.operands.now l.here (a.left - l.k) (To there n) after
-    → Stretching a.capacities.now a.lengths.now a.kinds.now a.operands.now a.from a.left after there (l.k + n)
-longer c there n after h =
+    Strode a.capacities.now l.lengths a.kinds.now a.operands.now l.here (a.left - l.k) (Some m) after
+    → Stretching a.capacities.now a.lengths.now a.kinds.now a.operands.now a.from a.left after m.there (l.k + m.steps)
+longer c m after h =
     let a = c.args in
     stretching_goes a.capacities.now a.lengths.now a.kinds.now a.operands.now a.from a.left
-    c.loop-lengths.invariant (going c).1 there n h
+    c.loop-lengths.invariant (going c).1 m h
 
 pub loop-lengths-init : goal.loop-lengths-init
 loop-lengths-init c =
@@ -38,11 +39,11 @@ pub returns-then-seen-count : goal.returns-then-seen-count
 returns-then-seen-count c =
     let a = c.args in
     stretching_to a.capacities.now a.lengths.now a.kinds.now a.operands.now a.from a.left
-    (longer (goal.at.returns-then-seen-count c).In-loop-lengths _ _ _ c.in-To.ensures) (omega (arith, c.in-To.ensures.1))
+    (longer (goal.at.returns-then-seen-count c).In-loop-lengths _ _ c.in-Some.ensures) (omega (arith, c.in-Some.ensures.1))
 
 pub loop-lengths-preserved-else-seen-count : goal.loop-lengths-preserved-else-seen-count
 loop-lengths-preserved-else-seen-count c =
-    longer (goal.at.loop-lengths-preserved-else-seen-count c).In-loop-lengths _ _ _ c.in-To.ensures
+    longer (goal.at.loop-lengths-preserved-else-seen-count c).In-loop-lengths _ _ c.in-Some.ensures
 
 pub loop-lengths-preserved : goal.loop-lengths-preserved
-loop-lengths-preserved c = longer (goal.at.loop-lengths-preserved c).In-loop-lengths _ _ _ c.in-To.ensures
+loop-lengths-preserved c = longer (goal.at.loop-lengths-preserved c).In-loop-lengths _ _ c.in-Some.ensures

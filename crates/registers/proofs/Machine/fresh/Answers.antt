@@ -11,8 +11,8 @@ use Rattle.registers.proofs.Machine.fresh.Goals as goal
 pub returns-then-not-fits : goal.returns-then-not-fits
 returns-then-not-fits c =
     let a = c.args in
-    lays_none (memory a.capacities.now a.store.now a.lengths.now) a.values.now
-    (sym c.fits.ensures ∙ c.if-not-fits.true)
+    rw c.refused.ensures
+    (lays_none (memory a.capacities.now a.store.now a.lengths.now) a.values.now (sym c.fits.ensures ∙ c.if-not-fits.true))
 
 pub fill-requires : goal.fill-requires
 fill-requires c =

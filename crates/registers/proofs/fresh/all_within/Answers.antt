@@ -4,10 +4,10 @@ use Rattle.registers.proofs.CanHold.{within_fails, within_all}
 use borrow.Author.Rules.{rules}
 use Rattle.registers.proofs.fresh.all_within.Goals as goal
 
-pub returns-then-capacity_at-wide : goal.returns-then-capacity_at-wide
-returns-then-capacity_at-wide c =
+pub returns-then-capacity_at-value : goal.returns-then-capacity_at-value
+returns-then-capacity_at-value c =
     let l = c.loop-i in
-    let high = rw (c.capacity_at.ensures.0, c.wide.ensures) at c.if-capacity_at-wide.true in
+    let high = rw c.capacity_at.ensures.0 at c.if-capacity_at-value.true in
     sym (within_fails _ _ l.i (search rules) high)
 
 pub returns : goal.returns

@@ -1,7 +1,5 @@
--- `fill` meets its contract. The loop's invariant: the registers passed are filled. The measure is the number of those left.
+-- `fill` meets its contract. The loop's invariant: the registers passed are filled.
 use mathlib.Core.Path.{◌≡◌}
-use Prim.Native.Nat.{◌-◌}
-use lib.ListN.{length}
 use Rattle.layout.specs.Offsets.{offsets_of}
 use Rattle.registers.specs.Fresh.{fresh_registers}
 use Rattle.registers.proofs.Filling.{Filling}
@@ -10,6 +8,3 @@ use Rattle.registers.proofs.fresh.fill.Given as goal
 abbrev pub invariant-loop-i : goal.invariant-loop-i
 invariant-loop-i l =
     (l.places ≡ offsets_of l.capacities) × Filling l.capacities (fresh_registers l.values) l.i l.store l.lengths
-
-abbrev pub decreases-loop-i : goal.decreases-loop-i
-decreases-loop-i l = length l.initial.lengths - l.i

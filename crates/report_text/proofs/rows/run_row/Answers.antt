@@ -28,5 +28,5 @@ returns c =
     let cut = cut_values capacities a.variables a.values size c.requires.3 in
     let short = cut_length capacities a.variables a.values size c.requires.3 in
     row-ran capacities c.requires.1 list a.kinds.now a.operands.now a.variables a.values c.requires.0 c.requires.3 r back
-    c.of_source-source.result c.run_word-word.result c.of_source-source.ensures
+    c.of_run-source.result c.run_word-word.result c.of_run-source.ensures
     λ q accepted table named. c.run_word-word.ensures q accepted table (short ∙ named) ∙ ap (λ v. ended_of (word_on capacities q v)) cut

@@ -1,9 +1,9 @@
 -- The goals of `run_rings`: a run that goes on stands at an instruction, and what it did is a step of the definition.
 use mathlib.Core.Path.{refl, sym, ◌∙◌, subst}
-use Prim.Native.Nat.{◌+◌, ◌-◌, ◌≤◌, ◌<◌}
+use Prim.Native.Nat.{ℕ, ◌+◌, ◌-◌, ◌≤◌, ◌<◌}
 use native.Mathlib.Omega.{arith}
 use lib.ListN.{length}
-use Rattle.rings.specs.declared.effect.Step.{Step}
+use Rattle.std.specs.Prelude.{Option}
 use Rattle.rings.specs.Steps.{Performed}
 use Rattle.rings.proofs.Rings.{ring_sized}
 use Rattle.underway.proofs.Running.{at_instruction}
@@ -43,19 +43,19 @@ perform-requires c =
       p.4,
     )
 
-pub returns-in-Full : goal.returns-in-Full
-returns-in-Full c =
+pub returns-in-None : goal.returns-in-None
+returns-in-None c =
     let a = c.args in
     let l = c.loop-i in
     let r = l.invariant.0 in
     let q = c.perform in
     let w = c.allowance-allowed in
-    let g = going (goal.at.returns-in-Full c).In-loop-i in
+    let g = going (goal.at.returns-in-None c).In-loop-i in
     running_full a.capacities.now a.store.now a.lengths.now a.kinds.now a.operands.now a.from a.steps a.budget
     w.result r c.requires.2 w.ensures g.0 g.1 g.2
     (λ i k o. subst
-    (λ (x : Step). Performed a.capacities.now r.registers l.here i x q.new.store q.new.lengths q.new.starts)
-    c.in-Full.is
+    (λ (x : Option ℕ). Performed a.capacities.now r.registers l.here i x q.new.store q.new.lengths q.new.starts)
+    c.in-None.is
     (q.ensures r.registers i k o r.held))
 
 pub loop-i-preserved : goal.loop-i-preserved
@@ -67,10 +67,10 @@ loop-i-preserved c =
     let w = c.allowance-allowed in
     let g = going (goal.at.loop-i-preserved c).In-loop-i in (
       running_step a.capacities.now a.store.now a.lengths.now a.kinds.now a.operands.now a.from a.steps
-          a.budget w.result r c.requires.2 w.ensures g.0 g.1 g.2 c.in-To.there
+          a.budget w.result r c.requires.2 w.ensures g.0 g.1 g.2 c.in-Some.there
           (λ i k o. subst
-          (λ (x : Step). Performed a.capacities.now r.registers l.here i x q.new.store q.new.lengths q.new.starts)
-          c.in-To.is
+          (λ (x : Option ℕ). Performed a.capacities.now r.registers l.here i x q.new.store q.new.lengths q.new.starts)
+          c.in-Some.is
           (q.ensures r.registers i k o r.held))
           q.auto.store q.auto.lengths,
       q.auto.starts ∙ l.invariant.1,

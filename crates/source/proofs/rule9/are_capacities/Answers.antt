@@ -38,4 +38,4 @@ pub returns : goal.returns
 unfolding all_capacities
 returns c =
     let all : c.args.variables ≡ c.loop-i.i = omega arith in
-    sym (ap (λ n. all_below n (good c.args.capacities.now)) all ∙ c.loop-i.invariant.1)
+    sym (ap (λ n. all_below n (good c.args.capacities.now)) all ∙ c.loop-i.invariant)

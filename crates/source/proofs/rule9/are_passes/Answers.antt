@@ -26,4 +26,4 @@ pub returns : goal.returns
 unfolding all_passes
 returns c =
     let all : 16 ≡ c.loop-d.d = omega arith in
-    sym (ap (λ n. all_below n (good c.args.bounds.now c.args.depth c.args.passes.now)) all ∙ c.loop-d.invariant.1)
+    sym (ap (λ n. all_below n (good c.args.bounds.now c.args.depth c.args.passes.now)) all ∙ c.loop-d.invariant)

@@ -1,7 +1,6 @@
 -- `are_passes` tries every entry of the passes-left. The invariant: those passed are good. Assumes nothing.
 use mathlib.Core.Path.{◌≡◌}
 use mathlib.Core.Bool.{true}
-use Prim.Native.Nat.{◌≤◌, ◌-◌}
 use lib.ListN.{get_or}
 use Rattle.theory.specs.Basics.{all_below}
 use Rattle.source_state.specs.Numbers.{is_passes_within}
@@ -9,7 +8,4 @@ use Rattle.source.proofs.rule9.are_passes.Given as goal
 
 abbrev pub invariant-loop-d : goal.invariant-loop-d
 invariant-loop-d l =
-    (l.d ≤ 16) × (all_below l.d (λ k. is_passes_within (get_or l.bounds k 0) l.depth k (get_or l.passes k 0)) ≡ true)
-
-abbrev pub decreases-loop-d : goal.decreases-loop-d
-decreases-loop-d l = 16 - l.d
+    all_below l.d (λ k. is_passes_within (get_or l.bounds k 0) l.depth k (get_or l.passes k 0)) ≡ true

@@ -26,4 +26,4 @@ pub returns : goal.returns
 unfolding all_values
 returns c =
     let all : 32 ≡ c.loop-i.i = omega arith in
-    sym (ap (λ n. all_below n (good c.args.capacities.now c.args.variables c.args.values.now)) all ∙ c.loop-i.invariant.1)
+    sym (ap (λ n. all_below n (good c.args.capacities.now c.args.variables c.args.values.now)) all ∙ c.loop-i.invariant)

@@ -1,7 +1,6 @@
 -- `are_values` tries every value. The invariant: those passed are good. Assumes nothing.
 use mathlib.Core.Path.{◌≡◌}
 use mathlib.Core.Bool.{true}
-use Prim.Native.Nat.{◌≤◌, ◌-◌}
 use lib.ListN.{get_or}
 use Rattle.theory.specs.Basics.{all_below}
 use Rattle.source_state.specs.Numbers.{is_value_within}
@@ -9,7 +8,4 @@ use Rattle.source.proofs.rule9.are_values.Given as goal
 
 abbrev pub invariant-loop-i : goal.invariant-loop-i
 invariant-loop-i l =
-    (l.i ≤ 32) × (all_below l.i (λ k. is_value_within (get_or l.capacities k 0) l.variables k (get_or l.values k 0)) ≡ true)
-
-abbrev pub decreases-loop-i : goal.decreases-loop-i
-decreases-loop-i l = 32 - l.i
+    all_below l.i (λ k. is_value_within (get_or l.capacities k 0) l.variables k (get_or l.values k 0)) ≡ true

@@ -16,7 +16,9 @@ bounds-list-here c =
     omega (arith, numbers-length c.args.list.now r.holds, r.lines_are, r.low)
 
 pub returns-then-list-here-eq-ENDLOOP : goal.returns-then-list-here-eq-ENDLOOP
-returns-then-list-here-eq-ENDLOOP c = depth_endloop _ _ _ _ c.requires c.if-lines-line.false c.if-list-here-eq-ENDLOOP.true
+returns-then-list-here-eq-ENDLOOP c =
+    rw c.from-entry.ensures (depth_endloop _ _ _ _ c.requires c.if-lines-line.false c.if-list-here-eq-ENDLOOP.true)
 
 pub returns-else-list-here-eq-ENDLOOP : goal.returns-else-list-here-eq-ENDLOOP
-returns-else-list-here-eq-ENDLOOP c = depth_other _ _ _ _ c.requires c.if-lines-line.false c.if-list-here-eq-ENDLOOP.false
+returns-else-list-here-eq-ENDLOOP c =
+    rw c.from-entry.ensures (depth_other _ _ _ _ c.requires c.if-lines-line.false c.if-list-here-eq-ENDLOOP.false)

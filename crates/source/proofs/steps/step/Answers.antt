@@ -19,16 +19,21 @@ overflow_add-line c = omega (arith, few c.requires)
 pub store_in-requires : goal.store_in-requires
 store_in-requires c =
     let r : _ = c.requires in
-    record { values_are = r.values_are; capacities_are = r.capacities_are; first = (first_in r).1; second = (second_in r).1 }
+    record {
+      values_are = r.values_are;
+      capacities_are = r.capacities_are;
+      first = rw c.from-i.ensures (first_in r).1;
+      second = rw c.from-j.ensures (second_in r).1;
+    }
 
 pub returns-then-kind-le-COPY : goal.returns-then-kind-le-COPY
 returns-then-kind-le-COPY c =
     let r : _ = c.requires in
     put_in _ r.filled.holds c.args.capacities.now _ r.low r.high c.args.values.now c.args.passes.now
-    c.if-kind-le-COPY.true (first_in r).0 _ _ c.store_in.ensures
+    c.if-kind-le-COPY.true (first_in r).0 _ _ (rw (c.from-i.ensures, c.from-j.ensures) at c.store_in.ensures)
 
 pub bounds-values-i : goal.bounds-values-i
-bounds-values-i c = (first_in c.requires).0
+bounds-values-i c = rw c.from-i.ensures (first_in c.requires).0
 
 pub lead_on-requires : goal.lead_on-requires
 lead_on-requires c =
@@ -46,4 +51,4 @@ pub returns : goal.returns
 returns c =
     let r : _ = c.requires in
     led_on _ r.filled.holds c.args.capacities.now _ r.low r.high c.args.values.now c.args.passes.now
-    _ _ r.filled c.if-kind-le-COPY.false (pair_in r c.if-kind-le-COPY.false).0 _ _ c.lead_on.ensures
+    _ _ r.filled c.if-kind-le-COPY.false (pair_in r c.if-kind-le-COPY.false).0 _ _ (rw c.from-i.ensures at c.lead_on.ensures)

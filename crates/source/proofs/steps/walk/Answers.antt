@@ -20,16 +20,16 @@ returns-then-taken-allowed c =
     let here : c.loop-line.line ≤ length (commands c.args.list.now) = omega arith in
     going_spent _ _ _ _ _ _ _ _ c.loop-line.invariant here c.if-taken-allowed.true
 
-pub returns-in-Full : goal.returns-in-Full
-returns-in-Full c =
+pub returns-in-None : goal.returns-in-None
+returns-in-None c =
     let here : c.loop-line.line ≤ length (commands c.args.list.now) = omega arith in
-    going_full _ _ _ _ _ _ _ _ c.loop-line.invariant here c.if-taken-allowed.false c.ranges.allowed.fits _ _ c.in-Full.ensures
+    going_full _ _ _ _ _ _ _ _ c.loop-line.invariant here c.if-taken-allowed.false c.ranges.allowed.fits _ _ c.in-None.ensures
 
 pub loop-line-preserved : goal.loop-line-preserved
 loop-line-preserved c =
     let here : c.loop-line.line ≤ length (commands c.args.list.now) = omega arith in
     going_on _ _ _ _ _ _ _ _ c.loop-line.invariant here c.if-taken-allowed.false c.ranges.allowed.fits _ _ _
-    c.in-At.ensures (omega arith) (omega arith)
+    c.in-Some.ensures (omega arith) (omega arith)
 
 pub returns : goal.returns
 returns c = going_halted _ _ _ _ _ _ _ _ c.loop-line.invariant (omega arith)

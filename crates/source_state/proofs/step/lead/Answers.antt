@@ -1,4 +1,5 @@
 -- `lead` leads where the definition says, by the kind and one test. Assumes nothing.
+use native.Mathlib.Omega.{arith}
 use borrow.Author.Tests.{le-leb, lt-leb, ne_eqb}
 use Rattle.source_state.specs.Numbers.{led}
 use Rattle.source_state.proofs.step.lead.Goals as goal
@@ -31,5 +32,4 @@ pub returns-in_default : goal.returns-in_default
 unfolding led
 returns-in_default c =
     let kind = c.args.kind in
-    let other : _ = c.in_default.in_default-own.rest in
-    rw (ne_eqb kind 4 other.0.0.1, ne_eqb kind 5 other.0.1, ne_eqb kind 6 other.1)
+    rw (ne_eqb kind 4 (omega arith), ne_eqb kind 5 (omega arith), ne_eqb kind 6 (omega arith))

@@ -25,12 +25,10 @@ pub returns-then-source-capacity : goal.returns-then-source-capacity
 unfolding stored
 returns-then-source-capacity c =
     let args = c.args in
-    let other : _ = c.in_default.in_default-own.rest in
-    rw (ne_eqb args.kind 1 other.0.1, ne_eqb args.kind 2 other.1, le-leb args.source args.capacity c.if-source-capacity.true)
+    rw (ne_eqb args.kind 1 (omega arith), ne_eqb args.kind 2 (omega arith), le-leb args.source args.capacity c.if-source-capacity.true)
 
 pub returns-else-source-capacity : goal.returns-else-source-capacity
 unfolding stored
 returns-else-source-capacity c =
     let args = c.args in
-    let other : _ = c.in_default.in_default-own.rest in
-    rw (ne_eqb args.kind 1 other.0.1, ne_eqb args.kind 2 other.1, lt-leb args.source args.capacity c.if-source-capacity.false)
+    rw (ne_eqb args.kind 1 (omega arith), ne_eqb args.kind 2 (omega arith), lt-leb args.source args.capacity c.if-source-capacity.false)

@@ -27,19 +27,17 @@ module _ (kinds operands : List ℕ) (i : ℕ) (t : Tally) (q : t ≡ tally_of (
       (tally_more (take i z) (entry (get_or operands i 0) (get_or kinds i 0)) short)
 
 pub loop-i-init : goal.loop-i-init
-loop-i-init c = (omega arith, sym tally_none)
+loop-i-init c = sym tally_none
 
 pub loop-i-preserved : goal.loop-i-preserved
 loop-i-preserved c =
     let l = c.loop-i in
-    let count = c.longer-count in
+    let count = c.max-count in
     let a = c.args in
     let inside : l.i < length (zipped a.kinds.now a.operands.now) =
-    omega (arith, zipped-length a.kinds.now a.operands.now, count.ensures, c.loop-i-test.true) in (
-      omega arith,
-      counted_next a.kinds.now a.operands.now l.i l.t l.invariant.1 inside (omega arith) _ _
-          c.kind_at.ensures c.operand_at.ensures c.with_entry-t.result c.with_entry-t.ensures,
-    )
+    omega (arith, zipped-length a.kinds.now a.operands.now, count.ensures, c.loop-i-test.true) in
+    counted_next a.kinds.now a.operands.now l.i l.t l.invariant inside (omega arith) _ _
+    c.kind_at.ensures c.operand_at.ensures c.with_entry-t.result c.with_entry-t.ensures
 
 pub returns : goal.returns
 returns c =
@@ -47,5 +45,5 @@ returns c =
     let a = c.args in
     let z = zipped-length a.kinds.now a.operands.now in
     let all = take_all l.i (zipped a.kinds.now a.operands.now)
-    (omega (arith, z, c.longer-count.ensures, c.loop-i-test.false)) in
-    l.invariant.1 ∙ ap tally_of all
+    (omega (arith, z, c.max-count.ensures, c.loop-i-test.false)) in
+    l.invariant ∙ ap tally_of all

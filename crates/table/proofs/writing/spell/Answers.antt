@@ -36,7 +36,7 @@ pub loop-i-preserved : goal.loop-i-preserved
 loop-i-preserved c =
     let l = c.loop-i in
     let a = c.args in
-    spelt_next a.kinds.now a.operands.now l.i l.invariant (omega arith) _ _ c.kind_at-kind.ensures
+    spelt_next a.kinds.now a.operands.now l.i l.invariant (omega arith) _ _ (c.from-kind.ensures ∙ c.kind_at.ensures)
     c.operand_at-operand.ensures c.put_instruction-at.ensures
 
 pub returns : goal.returns

@@ -1,6 +1,4 @@
--- `spell` meets its contract. The loop's invariant: the entries passed are spelled, and `at` is where they end. What is left of the table
--- falls.
-use Prim.Native.Nat.{◌-◌}
+-- `spell` meets its contract. The loop's invariant: the entries passed are spelled, and `at` is where they end.
 use lib.ListN.{take}
 use Rattle.instruction.specs.Instructions.{Spelt}
 use Rattle.word.specs.Answers.{zipped}
@@ -8,6 +6,3 @@ use Rattle.table.proofs.writing.spell.Given as goal
 
 abbrev pub invariant-loop-i : goal.invariant-loop-i
 invariant-loop-i l = Spelt (take l.i (zipped l.kinds l.operands)) 0 l.initial.word l.word l.at
-
-abbrev pub decreases-loop-i : goal.decreases-loop-i
-decreases-loop-i l = l.count - l.i

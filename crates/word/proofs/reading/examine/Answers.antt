@@ -1,11 +1,11 @@
 -- `examine` meets its contract: each of its ways out is one of the rules, in their order.
+use Rattle.std.specs.Prelude.{Err}
 use mathlib.Core.Path.{◌≡◌, ap, ◌∙◌}
 use mathlib.Core.List.{List}
 use Prim.Native.Nat.{ℕ, ◌≤◌}
 use native.Mathlib.Omega.{arith}
 use lib.ListN.{length}
 use Rattle.theory.specs.Word.{is_symbol}
-use Rattle.word.specs.declared.answers.Read.TheVariants.{Refused}
 use Rattle.word.specs.Scan.{symbols}
 use Rattle.text.proofs.Runs.{leading_length}
 use Rattle.counting.proofs.Symbols.{Known}
@@ -23,7 +23,7 @@ returns-then-end-word c =
     let w : List ℕ = c.args.word.now in
     let e : c.symbols_end-end.result ≡ symbols w = c.symbols_end-end.ensures in
     c.refused-then-end-word.ensures
-    ∙ ap (λ (n : ℕ). Refused (record { number = 12; place = n })) e
+    ∙ ap (λ (n : ℕ). Err (record { number = 12; place = n })) e
     ∙ unknown_symbol w (omega arith, omega arith) (rw e at c.if-end-word.true)
 
 pub scan-requires : goal.scan-requires

@@ -1,20 +1,21 @@
 -- `read` meets its contract: what `measure` answers, then rule 19 for each lent list, and then what `fill` puts there.
 use mathlib.Core.Path.{sym, ◌∙◌}
 use native.Mathlib.Omega.{arith}
+use Rattle.theory.proofs.PassedOn.{passed_on}
 use Rattle.word.proofs.Judged.{measured, read_refused, kinds_short, operands_short, both_fit}
 use Rattle.word.proofs.reading.read.Goals as goal
 
 pub returns-then-kinds-count : goal.returns-then-kinds-count
 returns-then-kinds-count c =
     let a : _ = c.args in
-    let m : _ = measured a.word.now c.in-Done.count (sym c.in-Done.is ∙ c.measure.ensures) in
+    let m : _ = measured a.word.now c.in_ok-count.count (sym c.in_ok-count.was ∙ c.measure.ensures) in
     let x : _ = kinds_short a.word.now a.kinds.now a.operands.now m.0 (omega (arith, m.1, c.if-kinds-count.true)) in
     (c.refused.ensures ∙ x.0, x.1, x.2)
 
 pub returns-then-operands-count : goal.returns-then-operands-count
 returns-then-operands-count c =
     let a : _ = c.args in
-    let m : _ = measured a.word.now c.in-Done.count (sym c.in-Done.is ∙ c.measure.ensures) in
+    let m : _ = measured a.word.now c.in_ok-count.count (sym c.in_ok-count.was ∙ c.measure.ensures) in
     let x : _ = operands_short a.word.now a.kinds.now a.operands.now m.0 (omega (
       arith,
       m.1,
@@ -25,7 +26,7 @@ returns-then-operands-count c =
 pub fill-requires : goal.fill-requires
 fill-requires c =
     let a : _ = c.args in
-    let m : _ = measured a.word.now c.in-Done.count (sym c.in-Done.is ∙ c.measure.ensures) in
+    let m : _ = measured a.word.now c.in_ok-count.count (sym c.in_ok-count.was ∙ c.measure.ensures) in
     record {
       passed = m.0;
       whole = m.1;
@@ -33,19 +34,19 @@ fill-requires c =
       operands_room = c.if-operands-count.false;
     }
 
-pub returns-else-operands-count : goal.returns-else-operands-count
-returns-else-operands-count c =
+pub returns : goal.returns
+returns c =
     let a : _ = c.args in
-    let m : _ = measured a.word.now c.in-Done.count (sym c.in-Done.is ∙ c.measure.ensures) in
+    let m : _ = measured a.word.now c.in_ok-count.count (sym c.in_ok-count.was ∙ c.measure.ensures) in
     let f : _ = c.fill in
     both_fit a.word.now a.kinds.now a.operands.now m.0 (omega (
       arith,
       m.1,
       c.if-kinds-count.false,
     )) (omega (arith, m.1, c.if-operands-count.false))
-    c.in-Done.count m.1 f.new.kinds f.new.operands f.ensures
+    c.in_ok-count.count m.1 f.new.kinds f.new.operands f.ensures
 
-pub returns-in-Refused : goal.returns-in-Refused
-returns-in-Refused c =
+pub returns-in_err-count : goal.returns-in_err-count
+returns-in_err-count c =
     let a : _ = c.args in
-    read_refused a.word.now a.kinds.now a.operands.now c.in-Refused.r (sym c.in-Refused.is ∙ c.measure.ensures)
+    rw (passed_on _ c.from_residual.ensures) (read_refused a.word.now a.kinds.now a.operands.now _ (sym c.in_err-count.was ∙ c.measure.ensures))

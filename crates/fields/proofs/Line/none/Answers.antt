@@ -1,8 +1,0 @@
--- `Line::none` meets its contract: 32 zeros are the cells of the empty list.
-use mathlib.Core.Path.{refl}
-use Rattle.columns.specs.Columns.{padded}
-use Rattle.fields.proofs.Line.none.Goals as goal
-
-pub returns : goal.returns
-unfolding padded
-returns c = refl
