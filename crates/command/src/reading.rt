@@ -50,7 +50,9 @@ fn ends(s: &[u8], at: usize, word: &[u8]) -> bool
     word == &s[at..]
 }
 
-// The opening or closing line of a pair: a name between two words.
+// The opening or closing line of a pair: a name between two words. Always inlined, so that each pair's words are known where they are looked
+// for.
+#[inline(always)]
 fn pair_line(s: &[u8], kind: u8, front: &[u8], back: &[u8]) -> Option<Numbers>
     ensures { result ≡ of_kind kind (around front.now back.now s.now) }
 {

@@ -40,7 +40,7 @@ numbers-values l = refl
 -- A line of values
 
 -- Values within their capacities are below what is above any of these
-within_below : (capacities : List ℕ) (bound : ℕ) → ((i : ℕ) → get_or capacities i 0 < bound) → (ns vs : List ℕ) → length vs ≡ length ns
+pub within_below : (capacities : List ℕ) (bound : ℕ) → ((i : ℕ) → get_or capacities i 0 < bound) → (ns vs : List ℕ) → length vs ≡ length ns
     → within_columns capacities ns vs ≡ true → AllBelow bound vs
 unfolding within_columns
 within_below capacities bound h [] [] e low = refl

@@ -82,6 +82,8 @@ fn read_names(sheet: &[u8], variables: usize) -> Result<Heading, Refusal>
 }
 
 // The line that begins at `at`, as line `n` of values. A number that is too large for 32 bits is above any capacity.
+// Always inlined, so that the numbers are not copied on the way to the caller.
+#[inline(always)]
 fn scan(
     sheet: &[u8],
     names: Names,

@@ -53,7 +53,8 @@ pub fn run_end(text: &[u8], at: usize, byte: u8) -> usize
     text.len().max(at)
 }
 
-// Whether a word stands at a place.
+// Whether a word stands at a place. Always inlined: of a word that is written out a few bytes are compared at once.
+#[inline(always)]
 pub fn stands(text: &[u8], at: usize, word: &[u8]) -> bool
     ensures { result ≡ is_some (following word.now (drop at text.now)) }
 {
